@@ -1,0 +1,15 @@
+use Rattle.address.specs.Number.{bitOf}
+use borrow.Author.Needs.{needs}
+use Rattle.address.proofs.Direction.bit.Statement.{statement}
+use Rattle.address.proofs.Direction.bit.Tie as tie
+
+returns : tie.Need-returns
+unfolding bitOf
+returns c = rw (c .enum-told .given .1)
+
+returns-2 : tie.Need-returns-2
+unfolding bitOf
+returns-2 c = rw (c .enum-told2 .given .1)
+
+pub bit-spec : {M : Type 1} → statement M
+bit-spec = tie.close (tie.spec (λ c. search needs) (λ c. search needs) returns returns-2)

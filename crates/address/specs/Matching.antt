@@ -1,0 +1,24 @@
+-- Which address byte the controller answers to (document 01, Events, 5). I2CADR has the own address in bits 7..1 and GC in bit 0.
+use mathlib.Core.Bool.{Bool}
+use Prim.Native.Nat.{ℕ, _/_, _%_}
+use lib.Dec.{eqb, ltb}
+use Rattle.notation.specs.Choice.{if_then_else_, _and_}
+use Rattle.address.specs.declared.AddressByte.{AddressByte}
+use Rattle.address.specs.declared.Match.{Match}
+use Rattle.address.specs.declared.Match.the-variants.{Own, General, Nothing}
+use Rattle.address.specs.Number.{addressOf, directionOf}
+
+-- "Byte 00h with .. GC"
+unfoldable pub callsAll : ℕ → AddressByte → Bool
+callsAll i2cadr byte = eqb (i2cadr % 2) 1 and eqb (byte .0) 0x00
+
+-- "I2CADR's address not zero and equal to the byte's upper seven bits"
+unfoldable pub callsOwn : ℕ → AddressByte → Bool
+callsOwn i2cadr byte = ltb 0 (i2cadr / 2) and eqb (addressOf byte .0) (i2cadr / 2)
+
+-- General Call, else the own address with its direction, else nothing; nothing at all with AA 0
+unfoldable pub matchOf : ℕ → Bool → AddressByte → Match
+matchOf i2cadr aa byte =
+    if aa and callsAll i2cadr byte then General
+    else if aa and callsOwn i2cadr byte then Own (directionOf byte)
+    else Nothing

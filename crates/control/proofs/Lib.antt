@@ -1,0 +1,2 @@
+-- Laws of the turns, cited by the proofs here and above.
+pub mod Turning

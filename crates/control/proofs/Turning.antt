@@ -1,0 +1,38 @@
+-- Which turns a rule lists, from what an arm of a `match` on the turn knows. An arm of one turn knows that turn's tag, an arm of several
+-- and the default know that the tag is one of a list. Assumes nothing.
+use mathlib.Core.Bool.{Bool}
+use mathlib.Core.List.{List, [], _∷_}
+use mathlib.Core.Path.{_≡_, refl, sym, ap, _∙_}
+use Prim.Native.Nat.{ℕ}
+use denote.Enum.Declared.{tagOf}
+use lib.Dec.{T}
+use types.Run.{OneOf}
+use Rattle.notation.specs.Choice.{among}
+use Rattle.notation.proofs.Among.{has, every, same, among-has, keys-in}
+use Rattle.control.specs.Turns.{kind}
+use Rattle.control.specs.declared.turn.Turn.{Turn}
+use Rattle.control.specs.declared.turn.Turn.the-variants.{Off, Host, Free, Busy, Listen, Address, Send, Receive, SlaveReceive, SlaveSend, Stopping, Restarting}
+use Rattle.control.proofs.turn.Turn.{the-type}
+
+pub tag-kind : (t : Turn) → tagOf the-type t ≡ kind t
+unfolding kind
+tag-kind Off = refl
+tag-kind (Host s e) = refl
+tag-kind Free = refl
+tag-kind Busy = refl
+tag-kind Listen = refl
+tag-kind Address = refl
+tag-kind Send = refl
+tag-kind Receive = refl
+tag-kind (SlaveReceive w) = refl
+tag-kind SlaveSend = refl
+tag-kind Stopping = refl
+tag-kind Restarting = refl
+
+-- the arm of one turn, whose number is k
+pub at-turn : (k : ℕ) (t : Turn) → tagOf the-type t ≡ k → (v : Bool) (ls : List ℕ) → has ls k ≡ v → among (kind t) ls ≡ v
+at-turn k t e v ls h = among-has (kind t) ls ∙ ap (has ls) (sym (tag-kind t) ∙ e) ∙ h
+
+-- the arm of several turns, and the default
+pub at-turns : (ks : List ℕ) (t : Turn) → OneOf ks (tagOf the-type t) → (v : Bool) (ls : List ℕ) → T (every (λ k. same (has ls k) v) ks) → among (kind t) ls ≡ v
+at-turns ks t h v ls p = ap (λ (k : ℕ). among k ls) (sym (tag-kind t)) ∙ keys-in ks (tagOf the-type t) h v ls p

@@ -1,0 +1,15 @@
+use Rattle.control.specs.Writing.{afterEdge}
+use borrow.Author.Needs.{needs}
+use Rattle.control.proofs.writing.after_edge.Statement.{statement}
+use Rattle.control.proofs.writing.after_edge.Tie as tie
+
+returns : tie.Need-returns
+unfolding afterEdge
+returns c = rw (c .enum-told .given .1)
+
+returns-2 : tie.Need-returns-2
+unfolding afterEdge
+returns-2 c = rw (c .enum-told2 .given .1)
+
+pub after-edge-spec : {M : Type 1} → statement M
+after-edge-spec = tie.close (tie.spec (λ c. search needs) (λ c. search needs) returns returns-2)

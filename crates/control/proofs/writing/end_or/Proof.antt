@@ -1,0 +1,19 @@
+use Rattle.notation.proofs.Cases.{cases}
+use Rattle.control.specs.Writing.{ends}
+use Rattle.control.proofs.writing.end_or.Statement.{statement}
+use Rattle.control.proofs.writing.end_or.Tie as tie
+
+returns : tie.Need-returns
+unfolding ends
+returns c = search cases
+
+returns-2 : tie.Need-returns-2
+unfolding ends
+returns-2 c = search cases
+
+returns-3 : tie.Need-returns-3
+unfolding ends
+returns-3 c = search cases
+
+pub end-or-spec : {M : Type 1} → statement M
+end-or-spec = tie.close (tie.spec returns returns-2 returns-3)

@@ -1,0 +1,3 @@
+-- Laws of the notation, cited by the proofs of the crates above.
+pub mod Cases
+pub mod Among

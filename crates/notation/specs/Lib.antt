@@ -1,0 +1,2 @@
+-- The notation in which the rules are written.
+pub mod Choice
