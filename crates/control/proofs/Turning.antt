@@ -1,15 +1,15 @@
 -- Which turns a rule lists, from what an arm of a `match` on the turn knows. An arm of one turn knows that turn's tag, an arm of several
 -- and the default know that the tag is one of a list. Assumes nothing.
-use mathlib.Core.Bool.{Bool}
+use mathlib.Core.Bool.{Bool, true, false, true≢false}
 use mathlib.Core.List.{List, [], _∷_}
 use mathlib.Core.Path.{_≡_, refl, sym, ap, _∙_}
 use Prim.Native.Nat.{ℕ}
 use denote.Enum.Declared.{tagOf}
 use lib.Dec.{T}
 use types.Run.{OneOf}
-use Rattle.notation.specs.Choice.{among}
+use Rattle.notation.specs.Choice.{among, if_then_else_}
 use Rattle.notation.proofs.Among.{has, every, same, among-has, keys-in}
-use Rattle.control.specs.Turns.{kind}
+use Rattle.control.specs.Turns.{host, kind, statusOf}
 use Rattle.control.specs.declared.turn.Turn.{Turn}
 use Rattle.control.specs.declared.turn.Turn.the-variants.{Off, Host, Free, Busy, Listen, Address, Send, Receive, SlaveReceive, SlaveSend, Stopping, Restarting}
 use Rattle.control.proofs.turn.Turn.{the-type}
@@ -36,3 +36,19 @@ at-turn k t e v ls h = among-has (kind t) ls ∙ ap (has ls) (sym (tag-kind t) �
 -- the arm of several turns, and the default
 pub at-turns : (ks : List ℕ) (t : Turn) → OneOf ks (tagOf the-type t) → (v : Bool) (ls : List ℕ) → T (every (λ k. same (has ls k) v) ks) → among (kind t) ls ≡ v
 at-turns ks t h v ls p = ap (λ (k : ℕ). among k ls) (sym (tag-kind t)) ∙ keys-in ks (tagOf the-type t) h v ls p
+
+-- "Status is F8h exactly when SI is 0": out of Host it is F8h
+pub status-idle : (t : Turn) → among (kind t) (host ∷ []) ≡ false → statusOf t ≡ 0xF8
+unfolding kind statusOf among if_then_else_
+status-idle Off e = refl
+status-idle (Host s d) e = absurd (true≢false e)
+status-idle Free e = refl
+status-idle Busy e = refl
+status-idle Listen e = refl
+status-idle Address e = refl
+status-idle Send e = refl
+status-idle Receive e = refl
+status-idle (SlaveReceive w) e = refl
+status-idle SlaveSend e = refl
+status-idle Stopping e = refl
+status-idle Restarting e = refl

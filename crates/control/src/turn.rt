@@ -1,4 +1,7 @@
 // The turn: what the controller waits for (document 01's term), with what that wait needs and the record does not hold.
+ghost use mathlib.Core.Path.{_≡_};
+ghost use mathlib.Core.List.{[], _∷_};
+ghost use Rattle.control.specs.Turns.{host, waits, wireTurns, dataTurns, statusOf};
 
 // Which bus condition ended a slave reception. It matters at status A0h alone; every other status carries `Stop`.
 pub enum Edge {
@@ -27,4 +30,45 @@ pub enum Turn {
     SlaveSend,
     Stopping,
     Restarting,
+}
+
+impl Turn {
+    // What I2CSTA reads.
+    pub fn status(self) -> u8
+        ensures { λ r. ⌜ r ≡ statusOf self ⌝ }
+    {
+        match self {
+            Turn::Host(status, _) => status,
+            _ => 0xF8,
+        }
+    }
+
+    // SI.
+    pub fn interrupts(self) -> bool
+        ensures { λ r. ⌜ r ≡ waits self (host ∷ []) ⌝ }
+    {
+        match self {
+            Turn::Host(_, _) => true,
+            _ => false,
+        }
+    }
+
+    pub fn on_wire(self) -> bool
+        ensures { λ r. ⌜ r ≡ waits self wireTurns ⌝ }
+    {
+        match self {
+            Turn::Off | Turn::Host(_, _) | Turn::Free | Turn::Busy | Turn::Listen => false,
+            _ => true,
+        }
+    }
+
+    // Data bytes are moved in this turn.
+    pub fn moves_data(self) -> bool
+        ensures { λ r. ⌜ r ≡ waits self dataTurns ⌝ }
+    {
+        match self {
+            Turn::Send | Turn::Receive | Turn::SlaveReceive(_) | Turn::SlaveSend => true,
+            _ => false,
+        }
+    }
 }

@@ -70,3 +70,7 @@ unfolding among
 none-of [] x n = refl
 none-of (k ∷ []) x n = if-false (eqb x k) true (among x []) (ne-eqb x k n) ∙ refl
 none-of (k ∷ j ∷ ks) x n = if-false (eqb x k) true (among x (j ∷ ks)) (ne-eqb x k (λ e. n (inl e))) ∙ none-of (j ∷ ks) x (λ e. n (inr e))
+
+-- the arm of one number
+pub key-is : (k x : ℕ) → x ≡ k → (v : Bool) (j : ℕ) → eqb k j ≡ v → eqb x j ≡ v
+key-is k x e v j h = ap (λ (n : ℕ). eqb n j) e ∙ h

@@ -1,0 +1,16 @@
+use mathlib.Core.Path.{sym, refl}
+use mathlib.Core.Bool.{true, false}
+use mathlib.Core.List.{[], _∷_}
+use Rattle.control.proofs.Turning.{at-turn, at-turns}
+use borrow.Author.Needs.{needs}
+use Rattle.control.proofs.turn.Turn.interrupts.Statement.{statement}
+use Rattle.control.proofs.turn.Turn.interrupts.Tie as tie
+
+returns : tie.Need-returns
+returns c = sym (at-turn 1 (c .before .before .args .self) (c .before .match .keys1) true (1 ∷ []) refl)
+
+returns-2 : tie.Need-returns-2
+returns-2 c = sym (at-turns (0 ∷ 2 ∷ 3 ∷ 4 ∷ 5 ∷ 6 ∷ 7 ∷ 8 ∷ 9 ∷ 10 ∷ 11 ∷ []) (c .before .args .self) (c .match .keys2) false (1 ∷ []) tt)
+
+pub interrupts-spec : {M : Type 1} → statement M
+interrupts-spec = tie.close (tie.spec (λ c. search needs) returns returns-2)

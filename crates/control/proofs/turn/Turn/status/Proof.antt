@@ -1,0 +1,18 @@
+use mathlib.Core.Path.{sym}
+use mathlib.Core.Bool.{false}
+use mathlib.Core.List.{[], _∷_}
+use Rattle.control.proofs.Turning.{at-turns, status-idle}
+use Rattle.control.specs.Turns.{statusOf}
+use borrow.Author.Needs.{needs}
+use Rattle.control.proofs.turn.Turn.status.Statement.{statement}
+use Rattle.control.proofs.turn.Turn.status.Tie as tie
+
+returns : tie.Need-returns
+unfolding statusOf
+returns c = rw (c .before .self .given .1)
+
+returns-2 : tie.Need-returns-2
+returns-2 c = sym (status-idle (c .before .args .self) (at-turns (0 ∷ 2 ∷ 3 ∷ 4 ∷ 5 ∷ 6 ∷ 7 ∷ 8 ∷ 9 ∷ 10 ∷ 11 ∷ []) (c .before .args .self) (c .match .keys2) false (1 ∷ []) tt))
+
+pub status-spec : {M : Type 1} → statement M
+status-spec = tie.close (tie.spec (λ c. search needs) returns returns-2)

@@ -1,0 +1,11 @@
+use mathlib.Core.Path.{refl}
+use Rattle.controller.specs.Answer.{outcomeOf, refusalOf, valueOf, accepts}
+use Rattle.controller.proofs.record.Controller.accept.Statement.{statement}
+use Rattle.controller.proofs.record.Controller.accept.Tie as tie
+
+returns : tie.Need-returns
+unfolding outcomeOf refusalOf valueOf accepts
+returns c = refl
+
+pub accept-spec : {M : Type 1} → statement M
+accept-spec = tie.close (tie.spec returns)

@@ -1,0 +1,22 @@
+use Rattle.notation.proofs.Cases.{cases}
+use mathlib.Core.Path.{sym, _∙_}
+use Rattle.controller.specs.Accesses.{barsWrite, closedAt}
+use borrow.Author.Needs.{needs}
+use Rattle.controller.proofs.record.Controller.bars_write.Statement.{statement}
+use Rattle.controller.proofs.record.Controller.bars_write.Tie as tie
+
+returns : tie.Need-returns
+unfolding barsWrite closedAt
+returns c = search cases
+
+returns-2 : tie.Need-returns-2
+unfolding barsWrite closedAt
+returns-2 c = search (sym (c .before .is-closed-at .ensures) ∙ c .if2 .taken, cases)
+
+returns-3 : tie.Need-returns-3
+unfolding barsWrite closedAt
+returns-3 c = search (sym (c .before .before .is-closed-at .ensures) ∙ c .before .if2 .left, cases)
+
+pub bars-write-spec : {M : Type 1} → statement M
+bars-write-spec =
+    tie.close (tie.spec returns (λ c κs. search needs) returns-2 (λ c κs. search needs) returns-3)

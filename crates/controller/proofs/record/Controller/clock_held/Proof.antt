@@ -1,0 +1,24 @@
+use Rattle.notation.proofs.Cases.{cases}
+use mathlib.Core.List.{[], _∷_}
+use Rattle.control.proofs.Turning.{at-turns}
+use Rattle.controller.specs.Conditions.{clockHeld}
+use borrow.Author.Needs.{needs}
+use Rattle.controller.proofs.record.Controller.clock_held.Statement.{statement}
+use Rattle.controller.proofs.record.Controller.clock_held.Tie as tie
+
+returns : tie.Need-returns
+unfolding clockHeld
+returns c = search (at-turns (0 ∷ 1 ∷ []) (c .before .before .args .self .turn) (c .before .match .keys1), cases)
+
+returns-2 : tie.Need-returns-2
+unfolding clockHeld
+returns-2 c = search (at-turns (2 ∷ 3 ∷ 4 ∷ 5 ∷ 6 ∷ 7 ∷ 8 ∷ 9 ∷ 10 ∷ 11 ∷ []) (c .before .before .before .before .args .self .turn) (c .before .before .before .match .keys2), cases)
+
+returns-3 : tie.Need-returns-3
+unfolding clockHeld
+returns-3 c = search (at-turns (2 ∷ 3 ∷ 4 ∷ 5 ∷ 6 ∷ 7 ∷ 8 ∷ 9 ∷ 10 ∷ 11 ∷ []) (c .before .before .before .before .args .self .turn) (c .before .before .before .match .keys2), cases)
+
+pub clock-held-spec : {M : Type 1} → statement M
+clock-held-spec =
+    tie.close
+    (tie.spec (λ c κs. search needs) (λ c κs. search needs) (λ c κs. search needs) returns returns-2 returns-3)

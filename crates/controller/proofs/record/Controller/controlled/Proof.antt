@@ -1,0 +1,12 @@
+use mathlib.Core.Path.{_∙_}
+use Rattle.controller.specs.I2ccon.{controlled}
+use borrow.Author.Needs.{needs}
+use Rattle.controller.proofs.record.Controller.controlled.Statement.{statement}
+use Rattle.controller.proofs.record.Controller.controlled.Tie as tie
+
+returns : tie.Need-returns
+unfolding controlled
+returns c = c .wrote .ensures ∙ rw (c .before .before .before .keep .ensures)
+
+pub controlled-spec : {M : Type 1} → statement M
+controlled-spec = tie.close (tie.spec (λ c κs. search needs) (λ c κs. search needs) returns)

@@ -1,0 +1,33 @@
+use Rattle.notation.proofs.Cases.{cases}
+use mathlib.Core.Path.{sym, _∙_}
+use mathlib.Core.Path.{_∙_}
+use Rattle.controller.specs.I2ccon.{enabled}
+use borrow.Author.Needs.{needs}
+use Rattle.controller.proofs.record.Controller.enabled.Statement.{statement}
+use Rattle.controller.proofs.record.Controller.enabled.Tie as tie
+
+returns : tie.Need-returns
+unfolding enabled
+returns c = c .refuse .ensures ∙ rw (c .before .enum-told .given .1)
+
+returns-2 : tie.Need-returns-2
+unfolding enabled
+returns-2 c = c .refuse2 .ensures ∙ rw (c .before .before .before .before .response .given .1) (search (sym (c .before .before .bad-count .ensures) ∙ c .before .if1 .taken, cases))
+
+returns-3 : tie.Need-returns-3
+unfolding enabled
+returns-3 c = c .controlled .ensures ∙ rw (c .before .before .before .before .response .given .1) (search (sym (c .before .before .bad-count .ensures) ∙ c .before .if1 .left, cases))
+
+pub enabled-spec : {M : Type 1} → statement M
+enabled-spec =
+    tie.close
+    (tie.spec
+    (λ c. search needs)
+    (λ c κs. search needs)
+    (λ c. search needs)
+    (λ c κs. search needs)
+    (λ c κs. search needs)
+    (λ c κs. search needs)
+    returns
+    returns-2
+    returns-3)

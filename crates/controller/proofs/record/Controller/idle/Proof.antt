@@ -1,0 +1,36 @@
+use Rattle.notation.proofs.Cases.{cases}
+use mathlib.Core.List.{[], _∷_}
+use Rattle.control.proofs.Turning.{at-turns}
+use Rattle.controller.specs.Conditions.{idle}
+use borrow.Author.Needs.{needs}
+use Rattle.controller.proofs.record.Controller.idle.Statement.{statement}
+use Rattle.controller.proofs.record.Controller.idle.Tie as tie
+
+returns : tie.Need-returns
+unfolding idle
+returns c = search (at-turns (3 ∷ 4 ∷ []) (c .before .before .before .before .before .args .self .turn) (c .before .match .keys1), cases)
+
+returns-2 : tie.Need-returns-2
+unfolding idle
+returns-2 c = search (at-turns (0 ∷ 1 ∷ 2 ∷ 5 ∷ 6 ∷ 7 ∷ 8 ∷ 9 ∷ 10 ∷ 11 ∷ []) (c .before .before .before .before .before .args .self .turn) (c .before .match .keys2), cases)
+
+returns-3 : tie.Need-returns-3
+unfolding idle
+returns-3 c = search cases
+
+returns-4 : tie.Need-returns-4
+unfolding idle
+returns-4 c = search cases
+
+pub idle-spec : {M : Type 1} → statement M
+idle-spec =
+    tie.close
+    (tie.spec
+    (λ c κs. search needs)
+    (λ c κs. search needs)
+    (λ c κs. search needs)
+    (λ c κs. search needs)
+    returns
+    returns-2
+    returns-3
+    returns-4)

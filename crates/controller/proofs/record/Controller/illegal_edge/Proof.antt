@@ -1,0 +1,23 @@
+use Rattle.notation.proofs.Cases.{cases}
+use mathlib.Core.List.{[], _∷_}
+use Rattle.control.proofs.Turning.{at-turns}
+use Rattle.controller.specs.Conditions.{illegalEdge}
+use borrow.Author.Needs.{needs}
+use Rattle.controller.proofs.record.Controller.illegal_edge.Statement.{statement}
+use Rattle.controller.proofs.record.Controller.illegal_edge.Tie as tie
+
+returns : tie.Need-returns
+unfolding illegalEdge
+returns c = search (at-turns (0 ∷ 1 ∷ []) (c .before .before .args .self .turn) (c .before .match .keys1), cases)
+
+returns-2 : tie.Need-returns-2
+unfolding illegalEdge
+returns-2 c = search (at-turns (2 ∷ 3 ∷ 4 ∷ []) (c .before .before .args .self .turn) (c .before .match .keys2), cases)
+
+returns-3 : tie.Need-returns-3
+unfolding illegalEdge
+returns-3 c = search (at-turns (5 ∷ 6 ∷ 7 ∷ 8 ∷ 9 ∷ 10 ∷ 11 ∷ []) (c .before .before .args .self .turn) (c .before .match .keys3), cases)
+
+pub illegal-edge-spec : {M : Type 1} → statement M
+illegal-edge-spec =
+    tie.close (tie.spec (λ c κs. search needs) (λ c κs. search needs) (λ c κs. search needs) returns returns-2 returns-3)

@@ -1,0 +1,13 @@
+use mathlib.Core.Path.{ap, _∙_}
+use Rattle.controller.specs.declared.record.Controller.{Controller}
+use Rattle.controller.specs.Answer.{accepts, interruptsAt}
+use borrow.Author.Needs.{needs}
+use Rattle.controller.proofs.record.Controller.interrupt.Statement.{statement}
+use Rattle.controller.proofs.record.Controller.interrupt.Tie as tie
+
+returns : tie.Need-returns
+unfolding interruptsAt
+returns c = c .accept .ensures ∙ ap (λ (d : Controller). accepts d (c .before .before .args .value)) (c .before .turned .ensures)
+
+pub interrupt-spec : {M : Type 1} → statement M
+interrupt-spec = tie.close (tie.spec (λ c κs. search needs) (λ c κs. search needs) returns)

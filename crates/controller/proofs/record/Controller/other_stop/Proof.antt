@@ -1,0 +1,32 @@
+use Rattle.notation.proofs.Cases.{cases}
+use mathlib.Core.List.{[], _∷_}
+use Rattle.control.proofs.Turning.{at-turn, at-turns}
+use Rattle.controller.specs.Conditions.{otherStop}
+use borrow.Author.Needs.{needs}
+use Rattle.controller.proofs.record.Controller.other_stop.Statement.{statement}
+use Rattle.controller.proofs.record.Controller.other_stop.Tie as tie
+
+returns : tie.Need-returns
+unfolding otherStop
+returns c = search (at-turn 3 (c .before .before .before .args .self .turn) (c .before .before .match .keys1), cases)
+
+returns-2 : tie.Need-returns-2
+unfolding otherStop
+returns-2 c = search (at-turn 8 (c .before .before .before .args .self .turn) (c .before .before .match .keys2), cases)
+
+returns-3 : tie.Need-returns-3
+unfolding otherStop
+returns-3 c = search (at-turns (0 ∷ 1 ∷ 2 ∷ 4 ∷ 5 ∷ 6 ∷ 7 ∷ 9 ∷ 10 ∷ 11 ∷ []) (c .before .before .args .self .turn) (c .before .match .keys3), cases)
+
+pub other-stop-spec : {M : Type 1} → statement M
+other-stop-spec =
+    tie.close
+    (tie.spec
+    (λ c. search needs)
+    (λ c κs. search needs)
+    (λ c. search needs)
+    (λ c κs. search needs)
+    (λ c κs. search needs)
+    returns
+    returns-2
+    returns-3)

@@ -1,0 +1,33 @@
+use Rattle.notation.proofs.Cases.{cases}
+use mathlib.Core.Path.{sym, _∙_}
+use Rattle.controller.specs.Accesses.{readOf}
+use borrow.Author.Needs.{needs}
+use Rattle.controller.proofs.record.Controller.read.Statement.{statement}
+use Rattle.controller.proofs.record.Controller.read.Tie as tie
+
+returns : tie.Need-returns
+unfolding readOf
+returns c = search cases
+
+read-sound-requires : tie.Need-read-sound-requires
+read-sound-requires c κs = sym (c .before .is-sound .ensures) ∙ c .if2 .taken
+
+returns-2 : tie.Need-returns-2
+unfolding readOf
+returns-2 c = search (sym (c .before .before .is-sound .ensures) ∙ c .before .if2 .taken, cases)
+
+returns-3 : tie.Need-returns-3
+unfolding readOf
+returns-3 c = search (sym (c .before .before .is-sound .ensures) ∙ c .before .if2 .left, cases)
+
+pub read-spec : {M : Type 1} → statement M
+read-spec =
+    tie.close
+    (tie.spec
+    (λ c κs. search needs)
+    returns
+    (λ c κs. search needs)
+    read-sound-requires
+    (λ c κs. search needs)
+    returns-2
+    returns-3)

@@ -1,0 +1,18 @@
+use Rattle.notation.proofs.Cases.{cases}
+use Rattle.controller.specs.Registers.{readData}
+use borrow.Author.Needs.{needs}
+use Rattle.controller.proofs.record.Controller.read_data.Statement.{statement}
+use Rattle.controller.proofs.record.Controller.read_data.Tie as tie
+
+returns : tie.Need-returns
+unfolding readData
+returns c = search cases
+
+returns-2 : tie.Need-returns-2
+unfolding readData
+returns-2 c = search cases
+
+pub read-data-spec : {M : Type 1} → statement M
+read-data-spec =
+    tie.close
+    (tie.spec (λ c κs. search needs) returns (λ c. search needs) (λ c. search needs) (λ c. search needs) (λ c κs. search needs) returns-2)

@@ -1,0 +1,11 @@
+use mathlib.Core.Path.{refl}
+use Rattle.controller.specs.Answer.{outcomeOf, refusalOf, valueOf, refuses}
+use Rattle.controller.proofs.record.Controller.refuse.Statement.{statement}
+use Rattle.controller.proofs.record.Controller.refuse.Tie as tie
+
+returns : tie.Need-returns
+unfolding outcomeOf refusalOf valueOf refuses
+returns c = refl
+
+pub refuse-spec : {M : Type 1} → statement M
+refuse-spec = tie.close (tie.spec returns)

@@ -1,0 +1,33 @@
+use Rattle.notation.proofs.Cases.{cases}
+use mathlib.Core.Path.{sym, _∙_}
+use Rattle.controller.specs.Accesses.{writeOf}
+use borrow.Author.Needs.{needs}
+use Rattle.controller.proofs.record.Controller.write.Statement.{statement}
+use Rattle.controller.proofs.record.Controller.write.Tie as tie
+
+returns : tie.Need-returns
+unfolding writeOf
+returns c = search cases
+
+write-sound-requires : tie.Need-write-sound-requires
+write-sound-requires c κs = sym (c .before .is-sound .ensures) ∙ c .if2 .taken
+
+returns-2 : tie.Need-returns-2
+unfolding writeOf
+returns-2 c = search (sym (c .before .before .is-sound .ensures) ∙ c .before .if2 .taken, cases)
+
+returns-3 : tie.Need-returns-3
+unfolding writeOf
+returns-3 c = search (sym (c .before .before .is-sound .ensures) ∙ c .before .if2 .left, cases)
+
+pub write-spec : {M : Type 1} → statement M
+write-spec =
+    tie.close
+    (tie.spec
+    (λ c κs. search needs)
+    returns
+    (λ c κs. search needs)
+    write-sound-requires
+    (λ c κs. search needs)
+    returns-2
+    returns-3)

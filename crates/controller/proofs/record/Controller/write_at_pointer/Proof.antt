@@ -1,0 +1,18 @@
+use Rattle.notation.proofs.Cases.{cases}
+use mathlib.Core.Path.{_∙_}
+use Rattle.controller.specs.Registers.{writeAtPointer}
+use borrow.Author.Needs.{needs}
+use Rattle.controller.proofs.record.Controller.write_at_pointer.Statement.{statement}
+use Rattle.controller.proofs.record.Controller.write_at_pointer.Tie as tie
+
+returns : tie.Need-returns
+unfolding writeAtPointer
+returns c = search cases
+
+returns-2 : tie.Need-returns-2
+unfolding writeAtPointer
+returns-2 c = c .wrote .ensures ∙ rw (c .before .stored .ensures) (search cases)
+
+pub write-at-pointer-spec : {M : Type 1} → statement M
+write-at-pointer-spec =
+    tie.close (tie.spec (λ c κs. search needs) returns (λ c κs. search needs) (λ c κs. search needs) returns-2)

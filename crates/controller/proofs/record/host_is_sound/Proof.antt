@@ -1,0 +1,22 @@
+use mathlib.Core.Path.{_∙_}
+use Rattle.notation.proofs.Cases.{cases}
+use mathlib.Core.List.{[], _∷_}
+use Rattle.control.proofs.Turning.{at-turns}
+use mathlib.Core.Path.{_∙_}
+use Rattle.controller.specs.Record.{hostSound}
+use Rattle.control.specs.Turns.{kind, statusOf}
+use Rattle.notation.specs.Choice.{among, if_then_else_}
+use borrow.Author.Needs.{needs}
+use Rattle.controller.proofs.record.host_is_sound.Statement.{statement}
+use Rattle.controller.proofs.record.host_is_sound.Tie as tie
+
+returns : tie.Need-returns
+unfolding hostSound kind statusOf among if_then_else_
+returns c = c .is-given .ensures ∙ rw (c .before .before .turn .given .1)
+
+returns-2 : tie.Need-returns-2
+unfolding hostSound
+returns-2 c = search (at-turns (0 ∷ 2 ∷ 3 ∷ 4 ∷ 5 ∷ 6 ∷ 7 ∷ 8 ∷ 9 ∷ 10 ∷ 11 ∷ []) (c .before .args .turn) (c .match .keys2), cases)
+
+pub host-is-sound-spec : {M : Type 1} → statement M
+host-is-sound-spec = tie.close (tie.spec (λ c. search needs) (λ c κs. search needs) returns returns-2)

@@ -1,0 +1,65 @@
+-- What an access or event answers (document 01, The controller record, and Refusals of an access or event).
+use Prim.Native.Nat.{ℕ}
+use Rattle.control.specs.declared.turn.Turn.{Turn}
+use Rattle.control.specs.declared.turn.Turn.the-variants.{Host}
+use Rattle.control.specs.declared.turn.Edge.{Edge}
+use Rattle.control.specs.declared.turn.Edge.the-variants.{Stop}
+use Rattle.controller.specs.declared.record.Controller.{Controller}
+use Rattle.controller.specs.declared.answer.Refusal.{Refusal}
+use Rattle.controller.specs.declared.answer.Refusal.the-variants.{NoSuchPlace, BadArgument, OnTheWire, Locked, Unlisted, BadCount, BufferEnd, Unexpected, Inaccessible, Unsound}
+use Rattle.controller.specs.declared.answer.Answer.{Answer}
+use Rattle.controller.specs.declared.answer.Answer.the-variants.{Accepted, Refused}
+use Rattle.controller.specs.declared.answer.Reply.{Reply}
+use Rattle.controller.specs.Record.{withTurn, withHand}
+
+-- the paper's number of each refusal
+abbrev pub numberOf : Refusal → ℕ
+numberOf NoSuchPlace = 1
+numberOf BadArgument = 2
+numberOf OnTheWire = 3
+numberOf Locked = 4
+numberOf Unlisted = 5
+numberOf BadCount = 6
+numberOf BufferEnd = 7
+numberOf Unexpected = 8
+numberOf Inaccessible = 9
+numberOf Unsound = 10
+
+-- the number of an answer, 0 where it is accepted
+unfoldable pub refusalOf : Answer → ℕ
+refusalOf (Accepted value) = 0
+refusalOf (Refused why) = numberOf why
+
+-- the value of an answer: "The value returned is 0" of a refusal
+unfoldable pub valueOf : Answer → ℕ
+valueOf (Accepted value) = value
+valueOf (Refused why) = 0
+
+-- The next record with the answer in the paper's numbers.
+pub record Outcome : Type 0 where
+  pub next : Controller
+  pub refused : ℕ
+  pub value : ℕ
+
+unfoldable pub outcomeOf : Reply → Outcome
+outcomeOf r = record { next = r .controller; refused = refusalOf (r .answer); value = valueOf (r .answer) }
+
+-- refused: "the whole record stays"
+unfoldable pub refuses : Controller → ℕ → Outcome
+refuses c number = record { next = c; refused = number; value = 0 }
+
+-- accepted, with the next record and the value
+unfoldable pub accepts : Controller → ℕ → Outcome
+accepts c value = record { next = c; refused = 0; value = value }
+
+-- accepted, waiting for something else
+unfoldable pub waitsFor : Controller → Turn → ℕ → Outcome
+waitsFor c turn value = accepts (withTurn c turn) value
+
+-- "An event that gives a status leads to Host"; the hand place goes "back to 0 .. whenever SI becomes 1"
+unfoldable pub interruptsAt : Controller → ℕ → Edge → ℕ → Outcome
+interruptsAt c status edge value = accepts (withHand (withTurn c (Host status edge)) 0) value
+
+-- the same for every status but A0h, where no bus condition is kept
+abbrev pub gives : Controller → ℕ → ℕ → Outcome
+gives c status value = interruptsAt c status Stop value

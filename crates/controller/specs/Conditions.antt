@@ -1,0 +1,108 @@
+-- Document 01, Events 1 to 5 and 8 to 13: bus conditions and address bytes. What is not expected is refused 8.
+use mathlib.Core.Bool.{Bool, false}
+use mathlib.Core.List.{List, [], _∷_}
+use Prim.Native.Nat.{ℕ}
+use lib.Dec.{eqb, ltb}
+use Rattle.notation.specs.Choice.{if_then_else_, _and_, _or_}
+use Rattle.address.specs.declared.AddressByte.{AddressByte}
+use Rattle.address.specs.declared.Direction.the-variants.{Write, Read}
+use Rattle.address.specs.declared.Match.{Match}
+use Rattle.address.specs.declared.Match.the-variants.{Own, General, Nothing}
+use Rattle.address.specs.Matching.{matchOf}
+use Rattle.control.specs.declared.flags.Control.{Control}
+use Rattle.control.specs.declared.turn.Turn.the-variants.{Free, Busy, Listen}
+use Rattle.control.specs.declared.turn.Edge.the-variants.{Stop, Start}
+use Rattle.control.specs.Turns.{off, host, free, busy, listen, address, send, receive, slaveReceive, stopping, restarting, wireTurns, waits}
+use Rattle.controller.specs.declared.record.Controller.{Controller}
+use Rattle.controller.specs.Record.{place, timeoutEnabled, withControl}
+use Rattle.controller.specs.Answer.{Outcome, refuses, accepts, waitsFor, interruptsAt, gives}
+
+-- "Free with STA", waiting to send a START
+abbrev pub wantsBus : Controller → Bool
+wantsBus c = waits (c .turn) (free ∷ []) and c .control .sta
+
+-- 1. "Own START. Free with STA: 08h. Restarting: 10h."
+unfoldable pub ownStart : Controller → Outcome
+ownStart c =
+    if wantsBus c then gives c 0x08 0
+    else if waits (c .turn) (restarting ∷ []) then gives c 0x10 0
+    else refuses c 8
+
+-- 2. "Another's START. Free, Busy: Listen. Restarting: 10h. SlaveReceive: A0h."
+unfoldable pub otherStart : Controller → Outcome
+otherStart c =
+    if waits (c .turn) (free ∷ busy ∷ []) then waitsFor c Listen 0
+    else if waits (c .turn) (restarting ∷ []) then gives c 0x10 0
+    else if waits (c .turn) (slaveReceive ∷ []) then interruptsAt c 0xA0 Start 0
+    else refuses c 8
+
+-- 3. "Another's STOP. Busy: Free. SlaveReceive: A0h."
+unfoldable pub otherStop : Controller → Outcome
+otherStop c =
+    if waits (c .turn) (busy ∷ []) then waitsFor c Free 0
+    else if waits (c .turn) (slaveReceive ∷ []) then interruptsAt c 0xA0 Stop 0
+    else refuses c 8
+
+-- STO 0, the other flags as they were
+abbrev pub withoutStop : Control → Control
+withoutStop k = record { aa = k .aa; ensio = k .ensio; sta = k .sta; sto = false; mode = k .mode }
+
+-- 4. "Own STOP. Stopping: Free, STO 0."
+unfoldable pub ownStop : Controller → Outcome
+ownStop c =
+    if waits (c .turn) (stopping ∷ []) then waitsFor (withControl c (withoutStop (c .control))) Free 0
+    else refuses c 8
+
+-- what an address byte is to this controller
+abbrev pub matches : Controller → ℕ → Match
+matches c byte = matchOf (c .registers .own) (c .control .aa) (record { 0 = byte })
+
+-- 5. the codes: D0h, 60h, "or A8h for R 1. Else Busy. The three codes mean ACK" (value 0; no match is a NACK, value 1)
+unfoldable pub addressed : Controller → Match → Outcome
+addressed c General = gives c 0xD0 0
+addressed c (Own Write) = gives c 0x60 0
+addressed c (Own Read) = gives c 0xA8 0
+addressed c Nothing = waitsFor c Busy 1
+
+-- 5. "Address byte, in Listen."
+unfoldable pub addressByte : Controller → ℕ → Outcome
+addressByte c byte = if waits (c .turn) (listen ∷ []) then addressed c (matches c byte) else refuses c 8
+
+-- 8. the codes: "Matched as in 5 it gives 68h, B0h or D8h, else 38h"
+unfoldable pub outbid : Controller → Match → Outcome
+outbid c General = gives c 0xD8 0
+outbid c (Own Write) = gives c 0x68 0
+outbid c (Own Read) = gives c 0xB0 0
+outbid c Nothing = gives c 0x38 1
+
+-- 8. "Arbitration lost in Address, argument the winner's byte. Expected only if it is smaller than ours"
+unfoldable pub addressLost : Controller → ℕ → Outcome
+addressLost c byte =
+    if waits (c .turn) (address ∷ []) and ltb byte (place c 0) then outbid c (matches c byte) else refuses c 8
+
+-- 9. "Arbitration lost in Send or Receive: 38h."
+unfoldable pub dataLost : Controller → Outcome
+dataLost c = if waits (c .turn) (send ∷ receive ∷ []) then gives c 0x38 0 else refuses c 8
+
+-- 10. "START or STOP at an illegal place. Wire turns: 00h. Free, Busy, Listen: accepted, no change"
+unfoldable pub illegalEdge : Controller → Outcome
+illegalEdge c =
+    if waits (c .turn) wireTurns then gives c 0x00 0
+    else if waits (c .turn) (free ∷ busy ∷ listen ∷ []) then accepts c 0
+    else refuses c 8
+
+-- 11. "SDA held after nine clocks. Free with STA, or Restarting: 70h."
+unfoldable pub dataHeld : Controller → Outcome
+dataHeld c = if wantsBus c or waits (c .turn) (restarting ∷ []) then gives c 0x70 0 else refuses c 8
+
+-- 12. "SCL low past the time-out, TE 1: 78h"; with SI 0 and not in Off
+unfoldable pub clockHeld : Controller → Outcome
+clockHeld c =
+    if waits (c .turn) (off ∷ host ∷ []) then refuses c 8
+    else if timeoutEnabled c then gives c 0x78 0
+    else refuses c 8
+
+-- 13. "Idle past the time-out, TE and STA 1, in Busy or Listen: 08h."
+unfoldable pub idle : Controller → Outcome
+idle c =
+    if timeoutEnabled c and c .control .sta and waits (c .turn) (busy ∷ listen ∷ []) then gives c 0x08 0 else refuses c 8

@@ -1,0 +1,10 @@
+-- The controller, by the sections of document 01.
+pub mod Record
+pub mod Answer
+pub mod Reset
+pub mod Registers
+pub mod I2ccon
+pub mod Accesses
+pub mod Conditions
+pub mod Transfers
+pub mod Events

@@ -1,0 +1,46 @@
+-- Document 01, Registers: "After reset", and the software reset.
+use mathlib.Core.Bool.{Bool, false}
+use mathlib.Core.List.{List}
+use Prim.Native.Nat.{ℕ}
+use lib.Dec.{eqb}
+use lib.ListN.{replicate}
+use Rattle.notation.specs.Choice.{if_then_else_, _and_}
+use Rattle.control.specs.declared.turn.Turn.the-variants.{Off}
+use Rattle.controller.specs.declared.record.Controller.{Controller}
+use Rattle.controller.specs.declared.record.Registers.{Registers}
+use Rattle.controller.specs.Record.{withArmed}
+use Rattle.controller.specs.Answer.{Outcome, accepts}
+
+-- "I2CCOUNT 01h, I2CADR E0h, 02h 9Dh, 03h 86h, I2CTO FFh, I2CMODE 00h"
+abbrev pub resetRegisters : Registers
+resetRegisters = record { count = 0x01; own = 0xE0; low = 0x9D; high = 0x86; timeout = 0xFF; speed = 0x00 }
+
+-- "turn Off, I2CCON 00h, pointer 0, .. hand and moved 0, not armed", over whatever the buffer holds
+unfoldable pub resetWith : List ℕ → Controller
+resetWith buffer = record {
+  buffer = buffer;
+  hand = 0;
+  moved = 0;
+  pointer = 0;
+  armed = false;
+  registers = resetRegisters;
+  control = record { aa = false; ensio = false; sta = false; sto = false; mode = false };
+  turn = Off;
+}
+
+-- "A reset keeps the buffer"
+abbrev pub reset : Controller → Controller
+reset c = resetWith (c .buffer)
+
+-- "The program's fresh controller has all 68 places at zero"
+abbrev pub fresh : Controller
+fresh = resetWith (replicate 68 0)
+
+-- I2CPRESET: "A5h .. arms it, 5Ah .. as the next accepted write resets. Any other accepted write disarms, but A5h .. arms again"
+unfoldable pub completesReset : Controller → ℕ → Bool
+completesReset c value = c .armed and eqb value 0x5A
+
+unfoldable pub writePreset : Controller → ℕ → Outcome
+writePreset c value =
+    if completesReset c value then accepts (reset c) 0
+    else accepts (withArmed c (eqb value 0xA5)) 0

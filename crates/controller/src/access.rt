@@ -1,0 +1,115 @@
+// Reading and writing any register.
+use crate::answer::Refusal;
+use crate::answer::Reply;
+use crate::record::Controller;
+ghost use mathlib.Core.Path.{_≡_};
+ghost use mathlib.Core.Bool.{true};
+ghost use Rattle.controller.specs.Record.{sound};
+ghost use Rattle.controller.specs.Answer.{outcomeOf};
+ghost use Rattle.controller.specs.Accesses.{barsRead, barsWrite, closedAt, readSound, readOf, writeSound, writeOf};
+
+impl Controller {
+    // Register 2 is not open at this pointer.
+    fn is_closed_at(self, register: u8, pointer: u8) -> bool
+        ensures { λ r. ⌜ r ≡ closedAt self register pointer ⌝ }
+    {
+        let indirect = register == 2;
+        if indirect {
+            self.pointer == pointer
+        } else {
+            false
+        }
+    }
+
+    // A wire turn, in which I2CDAT is not read.
+    fn bars_read(self, register: u8) -> bool
+        ensures { λ r. ⌜ r ≡ barsRead self register ⌝ }
+    {
+        let turn = self.turn;
+        let wire = turn.on_wire();
+        if wire { register == 1 } else { false }
+    }
+
+    // A wire turn, in which only INDPTR and I2CPRESET are written.
+    fn bars_write(self, register: u8) -> bool
+        ensures { λ r. ⌜ r ≡ barsWrite self register ⌝ }
+    {
+        let indirection = register == 0;
+        if indirection {
+            return false;
+        }
+        if self.is_closed_at(register, 5) {
+            return false;
+        }
+        let turn = self.turn;
+        turn.on_wire()
+    }
+
+    fn read_sound(self, register: u8) -> Reply
+        requires { ⌜ sound self ≡ true ⌝ }
+        ensures { λ r. ⌜ outcomeOf r ≡ readSound self register ⌝ }
+    {
+        if self.is_closed_at(register, 5) {
+            return self.refuse(Refusal::Inaccessible);
+        }
+        if self.bars_read(register) {
+            return self.refuse(Refusal::OnTheWire);
+        }
+        let turn = self.turn;
+        match register {
+            0 => self.accept(turn.status()),
+            1 => self.read_data(),
+            2 => self.accept(self.at_pointer()),
+            _ => {
+                let flags = self.control;
+                self.accept(flags.byte(turn.interrupts()))
+            }
+        }
+    }
+
+    // Any register read, of any record.
+    pub fn read(self, register: u8) -> Reply
+        ensures { λ r. ⌜ outcomeOf r ≡ readOf self register ⌝ }
+    {
+        if 3 < register {
+            return self.refuse(Refusal::NoSuchPlace);
+        }
+        if self.is_sound() {
+            self.read_sound(register)
+        } else {
+            self.refuse(Refusal::Unsound)
+        }
+    }
+
+    fn write_sound(self, register: u8, value: u8) -> Reply
+        requires { ⌜ sound self ≡ true ⌝ }
+        ensures { λ r. ⌜ outcomeOf r ≡ writeSound self register value ⌝ }
+    {
+        if self.is_closed_at(register, 7) {
+            return self.refuse(Refusal::Inaccessible);
+        }
+        if self.bars_write(register) {
+            return self.refuse(Refusal::OnTheWire);
+        }
+        match register {
+            0 => self.write_pointer(value),
+            1 => self.write_data(value),
+            2 => self.write_at_pointer(value),
+            _ => self.write_control(value),
+        }
+    }
+
+    // Any value written to any register, of any record.
+    pub fn write(self, register: u8, value: u8) -> Reply
+        ensures { λ r. ⌜ outcomeOf r ≡ writeOf self register value ⌝ }
+    {
+        if 3 < register {
+            return self.refuse(Refusal::NoSuchPlace);
+        }
+        if self.is_sound() {
+            self.write_sound(register, value)
+        } else {
+            self.refuse(Refusal::Unsound)
+        }
+    }
+}

@@ -1,0 +1,94 @@
+// What an access or event answers, and the few ways in which a rule ends.
+use crate::record::Controller;
+use control::turn::Edge;
+use control::turn::Turn;
+ghost use mathlib.Core.Path.{_≡_};
+ghost use Rattle.control.specs.declared.turn.Edge.the-variants.{Stop};
+ghost use Rattle.controller.specs.Record.{withTurn};
+ghost use Rattle.controller.specs.Answer.{numberOf, outcomeOf, refuses, accepts, waitsFor, interruptsAt};
+
+// Why an access or event is refused. The paper's number of each is `numberOf` in specs/Answer.antt.
+pub enum Refusal {
+    NoSuchPlace,
+    BadArgument,
+    OnTheWire,
+    Locked,
+    Unlisted,
+    BadCount,
+    BufferEnd,
+    Unexpected,
+    Inaccessible,
+    Unsound,
+}
+
+pub enum Answer {
+    Accepted(u8),
+    Refused(Refusal),
+}
+
+pub struct Reply {
+    pub controller: Controller,
+    pub answer: Answer,
+}
+
+impl Controller {
+    // Refused: the record stays.
+    pub(crate) fn refuse(self, why: Refusal) -> Reply
+        ensures { λ r. ⌜ outcomeOf r ≡ refuses self (numberOf why) ⌝ }
+    {
+        Reply {
+            controller: self,
+            answer: Answer::Refused(why),
+        }
+    }
+
+    // Accepted, with this record as the next.
+    pub(crate) fn accept(self, value: u8) -> Reply
+        ensures { λ r. ⌜ outcomeOf r ≡ accepts self value ⌝ }
+    {
+        Reply {
+            controller: self,
+            answer: Answer::Accepted(value),
+        }
+    }
+
+    pub(crate) fn turned(self, turn: Turn) -> Controller
+        ensures { λ r. ⌜ r ≡ withTurn self turn ⌝ }
+    {
+        let buffer = self.buffer;
+        let registers = self.registers;
+        let control = self.control;
+        Controller {
+            buffer,
+            hand: self.hand,
+            moved: self.moved,
+            pointer: self.pointer,
+            armed: self.armed,
+            registers,
+            control,
+            turn,
+        }
+    }
+
+    // Accepted, waiting for something else.
+    pub(crate) fn wait_for(self, turn: Turn, value: u8) -> Reply
+        ensures { λ r. ⌜ outcomeOf r ≡ waitsFor self turn value ⌝ }
+    {
+        self.turned(turn).accept(value)
+    }
+
+    // Accepted with a status: Host's turn, and the hand place back at 0.
+    pub(crate) fn interrupt(mut self, status: u8, edge: Edge, value: u8) -> Reply
+        ensures { λ r. ⌜ outcomeOf r ≡ interruptsAt self status edge value ⌝ }
+    {
+        self.hand = 0;
+        self.turned(Turn::Host(status, edge)).accept(value)
+    }
+
+    // The same for every status but A0h.
+    pub(crate) fn give(self, status: u8, value: u8) -> Reply
+        ensures { λ r. ⌜ outcomeOf r ≡ interruptsAt self status Stop value ⌝ }
+    {
+        self.interrupt(status, Edge::Stop, value)
+    }
+}

@@ -1,0 +1,106 @@
+// Writing I2CCON.
+use crate::answer::Refusal;
+use crate::answer::Reply;
+use crate::record::Controller;
+use control::flags::Control;
+use control::turn::Turn;
+use control::writing::Response;
+use control::writing::respond;
+ghost use mathlib.Core.Path.{_≡_};
+ghost use Rattle.controller.specs.Answer.{outcomeOf};
+ghost use Rattle.controller.specs.I2ccon.{keeps, controlled, badCount, enabled, writeFlags, writeControl};
+
+// The flags that a write leaves: STO is stored only where it leads to Stopping.
+fn keep(old: Control, k: Control, turn: Turn) -> Control
+    ensures { λ r. ⌜ r ≡ keeps old k turn ⌝ }
+{
+    match turn {
+        Turn::Stopping => k,
+        _ => Control {
+            aa: k.aa,
+            ensio: k.ensio,
+            sta: k.sta,
+            sto: old.sto,
+            mode: k.mode,
+        },
+    }
+}
+
+impl Controller {
+    // An accepted write: flags and turn stored, hand place and moved count back at 0.
+    fn controlled(self, k: Control, turn: Turn) -> Reply
+        ensures { λ r. ⌜ outcomeOf r ≡ controlled self k turn ⌝ }
+    {
+        let old = self.control;
+        let control = keep(old, k, turn);
+        let buffer = self.buffer;
+        let registers = self.registers;
+        let next = Controller {
+            buffer,
+            hand: 0,
+            moved: 0,
+            pointer: self.pointer,
+            armed: self.armed,
+            registers,
+            control,
+            turn,
+        };
+        next.wrote()
+    }
+
+    // The write would start a buffered data move, and BC is not 1..68.
+    fn bad_count(self, k: Control, turn: Turn) -> bool
+        ensures { λ r. ⌜ r ≡ badCount self k turn ⌝ }
+    {
+        if k.mode {
+            if turn.moves_data() {
+                let count = self.registers.count % 128;
+                let none = count == 0;
+                return if none { true } else { 68 < count };
+            }
+        }
+        false
+    }
+
+    // A write with ENSIO 1.
+    fn enabled(self, k: Control, response: Response) -> Reply
+        ensures { λ r. ⌜ outcomeOf r ≡ enabled self k response ⌝ }
+    {
+        match response {
+            Response::Unlisted => self.refuse(Refusal::Unlisted),
+            Response::Next(turn) => {
+                if self.bad_count(k, turn) {
+                    self.refuse(Refusal::BadCount)
+                } else {
+                    self.controlled(k, turn)
+                }
+            }
+        }
+    }
+
+    fn write_flags(self, k: Control) -> Reply
+        ensures { λ r. ⌜ outcomeOf r ≡ writeFlags self k ⌝ }
+    {
+        let turn = self.turn;
+        let status = turn.status();
+        match status {
+            0x00 | 0x70 | 0x78 => self.refuse(Refusal::Locked),
+            _ => {
+                if k.ensio {
+                    let response = respond(turn, k);
+                    self.enabled(k, response)
+                } else {
+                    let mut stopped = k;
+                    stopped.sta = false;
+                    self.controlled(stopped, Turn::Off)
+                }
+            }
+        }
+    }
+
+    pub(crate) fn write_control(self, value: u8) -> Reply
+        ensures { λ r. ⌜ outcomeOf r ≡ writeControl self value ⌝ }
+    {
+        self.write_flags(Control::of_byte(value))
+    }
+}

@@ -1,0 +1,72 @@
+// The reset pin, the software reset, and the fresh controller.
+use crate::answer::Reply;
+use crate::record::Controller;
+use crate::record::Registers;
+use control::flags::Control;
+use control::turn::Turn;
+ghost use mathlib.Core.Path.{_≡_};
+ghost use Rattle.controller.specs.Answer.{outcomeOf};
+ghost use Rattle.controller.specs.Reset.{reset, resetWith, fresh, completesReset, writePreset};
+
+fn reset_with(buffer: [u8; 68]) -> Controller
+    ensures { λ r. ⌜ r ≡ resetWith buffer ⌝ }
+{
+    Controller {
+        buffer,
+        hand: 0,
+        moved: 0,
+        pointer: 0,
+        armed: false,
+        registers: Registers {
+            count: 0x01,
+            own: 0xE0,
+            low: 0x9D,
+            high: 0x86,
+            timeout: 0xFF,
+            speed: 0x00,
+        },
+        control: Control {
+            aa: false,
+            ensio: false,
+            sta: false,
+            sto: false,
+            mode: false,
+        },
+        turn: Turn::Off,
+    }
+}
+
+impl Controller {
+    // A controller after reset with all 68 places at zero.
+    pub fn fresh() -> Controller
+        ensures { λ r. ⌜ r ≡ fresh ⌝ }
+    {
+        reset_with([0; 68])
+    }
+
+    // A reset keeps the buffer.
+    pub(crate) fn reset(self) -> Controller
+        ensures { λ r. ⌜ r ≡ reset self ⌝ }
+    {
+        let buffer = self.buffer;
+        reset_with(buffer)
+    }
+
+    // The value is 5Ah, and A5h was the accepted write before it.
+    fn completes_reset(self, value: u8) -> bool
+        ensures { λ r. ⌜ r ≡ completesReset self value ⌝ }
+    {
+        if self.armed { value == 0x5A } else { false }
+    }
+
+    // A write to I2CPRESET: 5Ah right after A5h resets.
+    pub(crate) fn write_preset(mut self, value: u8) -> Reply
+        ensures { λ r. ⌜ outcomeOf r ≡ writePreset self value ⌝ }
+    {
+        if self.completes_reset(value) {
+            return self.reset().accept(0);
+        }
+        self.armed = value == 0xA5;
+        self.accept(0)
+    }
+}

@@ -1,0 +1,152 @@
+// Bytes out and in: events 6 and 7.
+use crate::answer::Refusal;
+use crate::answer::Reply;
+use crate::record::Controller;
+use control::turn::Called;
+use control::turn::Turn;
+ghost use mathlib.Core.Path.{_≡_};
+ghost use mathlib.Core.Bool.{true};
+ghost use Prim.Native.Nat.{_<_};
+ghost use Rattle.controller.specs.Record.{sound};
+ghost use Rattle.controller.specs.Answer.{outcomeOf};
+ghost use Rattle.controller.specs.Transfers.{cursor, isLast, dataOut, addressStatus, byteOut, acknowledgesLast, received, dataIn, slaveIn, byteIn};
+
+// The status after an address byte that was acknowledged (0) or not (1).
+fn address_status(byte: u8, nack: u8) -> u8
+    ensures { λ r. ⌜ r ≡ addressStatus byte nack ⌝ }
+{
+    let read = byte % 2 == 1;
+    let refused = nack == 1;
+    if read {
+        if refused { 0x48 } else { 0x40 }
+    } else {
+        if refused { 0x20 } else { 0x18 }
+    }
+}
+
+impl Controller {
+    // The place that the next data byte is moved from or to.
+    fn cursor(self) -> u8
+        ensures { λ r. ⌜ r ≡ cursor self ⌝ }
+    {
+        if self.control.mode { self.moved } else { 0 }
+    }
+
+    // The next data byte ends the move.
+    fn is_last(self) -> bool
+        requires { ⌜ self .moved < 68 ⌝ }
+        ensures { λ r. ⌜ r ≡ isLast self ⌝ }
+    {
+        if self.control.mode {
+            let count = self.registers.count % 128;
+            self.moved + 1 == count
+        } else {
+            true
+        }
+    }
+
+    // The last byte of a move is acknowledged.
+    fn acknowledges_last(self) -> bool
+        ensures { λ r. ⌜ r ≡ acknowledgesLast self ⌝ }
+    {
+        if self.control.mode {
+            let flagged = self.registers.count / 128 == 1;
+            !flagged
+        } else {
+            self.control.aa
+        }
+    }
+
+    fn data_out(mut self, nack: u8, broken: u8, done: u8) -> Reply
+        requires { ⌜ self .moved < 68 ⌝ }
+        ensures { λ r. ⌜ outcomeOf r ≡ dataOut self nack broken done ⌝ }
+    {
+        let at = self.cursor() as usize;
+        let buffer = self.buffer;
+        let byte = buffer[at];
+        let last = self.is_last();
+        self.moved += 1;
+        let refused = nack == 1;
+        if refused {
+            return self.give(broken, byte);
+        }
+        if last {
+            return self.give(done, byte);
+        }
+        self.accept(byte)
+    }
+
+    // 6. A byte out, with what the receiver answered.
+    pub(crate) fn byte_out(self, nack: u8) -> Reply
+        requires { ⌜ sound self ≡ true ⌝ }
+        ensures { λ r. ⌜ outcomeOf r ≡ byteOut self nack ⌝ }
+    {
+        let turn = self.turn;
+        match turn {
+            Turn::Address => {
+                let buffer = self.buffer;
+                let byte = buffer[0];
+                self.give(address_status(byte, nack), byte)
+            }
+            Turn::Send => self.data_out(nack, 0x30, 0x28),
+            Turn::SlaveSend => {
+                if self.control.aa {
+                    self.data_out(nack, 0xC0, 0xB8)
+                } else {
+                    self.data_out(nack, 0xC0, 0xC8)
+                }
+            }
+            _ => self.refuse(Refusal::Unexpected),
+        }
+    }
+
+    // The byte stored at its place, and counted.
+    fn received(mut self, byte: u8) -> Controller
+        requires { ⌜ self .moved < 68 ⌝ }
+        ensures { λ r. ⌜ r ≡ received self byte ⌝ }
+    {
+        let at = self.cursor() as usize;
+        self.buffer[at] = byte;
+        self.moved += 1;
+        self
+    }
+
+    fn data_in(self, byte: u8, taken: u8, ended: u8) -> Reply
+        requires { ⌜ self .moved < 68 ⌝ }
+        ensures { λ r. ⌜ outcomeOf r ≡ dataIn self byte taken ended ⌝ }
+    {
+        let next = self.received(byte);
+        if self.is_last() {
+            if self.acknowledges_last() {
+                next.give(taken, 0)
+            } else {
+                next.give(ended, 1)
+            }
+        } else {
+            next.accept(0)
+        }
+    }
+
+    fn slave_in(self, byte: u8, called: Called) -> Reply
+        requires { ⌜ self .moved < 68 ⌝ }
+        ensures { λ r. ⌜ outcomeOf r ≡ slaveIn self byte called ⌝ }
+    {
+        match called {
+            Called::Own => self.data_in(byte, 0x80, 0x88),
+            Called::General => self.data_in(byte, 0xE0, 0xE8),
+        }
+    }
+
+    // 7. A byte in; the value tells whether it was acknowledged.
+    pub(crate) fn byte_in(self, byte: u8) -> Reply
+        requires { ⌜ sound self ≡ true ⌝ }
+        ensures { λ r. ⌜ outcomeOf r ≡ byteIn self byte ⌝ }
+    {
+        let turn = self.turn;
+        match turn {
+            Turn::Receive => self.data_in(byte, 0x50, 0x58),
+            Turn::SlaveReceive(called) => self.slave_in(byte, called),
+            _ => self.refuse(Refusal::Unexpected),
+        }
+    }
+}
