@@ -9,7 +9,7 @@ use Rattle.control.specs.Turns.{wireTurns, waits, statusOf}
 use Rattle.control.specs.Flags.{readsAs}
 use Rattle.controller.specs.declared.record.Controller.{Controller}
 use Rattle.controller.specs.Record.{interrupts, sound}
-use Rattle.controller.specs.Answer.{Outcome, refuses, accepts}
+use Rattle.controller.specs.Reply.{Outcome, refuses, accepts}
 use Rattle.controller.specs.Registers.{writePointer, readData, writeData, atPointer, writeAtPointer}
 use Rattle.controller.specs.I2ccon.{writeControl}
 

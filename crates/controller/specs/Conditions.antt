@@ -15,7 +15,7 @@ use Rattle.control.specs.declared.turn.Edge.the-variants.{Stop, Start}
 use Rattle.control.specs.Turns.{off, host, free, busy, listen, address, send, receive, slaveReceive, stopping, restarting, wireTurns, waits}
 use Rattle.controller.specs.declared.record.Controller.{Controller}
 use Rattle.controller.specs.Record.{place, timeoutEnabled, withControl}
-use Rattle.controller.specs.Answer.{Outcome, refuses, accepts, waitsFor, interruptsAt, gives}
+use Rattle.controller.specs.Reply.{Outcome, refuses, accepts, waitsFor, interruptsAt, gives}
 
 -- "Free with STA", waiting to send a START
 abbrev pub wantsBus : Controller → Bool

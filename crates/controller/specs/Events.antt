@@ -6,7 +6,7 @@ use lib.Dec.{eqb, ltb}
 use Rattle.notation.specs.Choice.{if_then_else_, _or_}
 use Rattle.controller.specs.declared.record.Controller.{Controller}
 use Rattle.controller.specs.Record.{sound}
-use Rattle.controller.specs.Answer.{Outcome, refuses, accepts}
+use Rattle.controller.specs.Reply.{Outcome, refuses, accepts}
 use Rattle.controller.specs.Reset.{reset}
 use Rattle.controller.specs.Conditions.{ownStart, otherStart, otherStop, ownStop, addressByte, addressLost, dataLost, illegalEdge, dataHeld, clockHeld, idle}
 use Rattle.controller.specs.Transfers.{byteOut, byteIn}

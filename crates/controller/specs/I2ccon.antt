@@ -14,7 +14,7 @@ use Rattle.control.specs.Flags.{flagsOf}
 use Rattle.control.specs.Writing.{response}
 use Rattle.controller.specs.declared.record.Controller.{Controller}
 use Rattle.controller.specs.Record.{byteCount, withHand, withMoved, withControl, withTurn}
-use Rattle.controller.specs.Answer.{Outcome, refuses}
+use Rattle.controller.specs.Reply.{Outcome, refuses}
 use Rattle.controller.specs.Registers.{wrote}
 
 -- "stores AA, ENSIO, STA, MODE. STO is stored only where it leads to Stopping"

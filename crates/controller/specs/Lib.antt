@@ -1,6 +1,6 @@
 -- The controller, by the sections of document 01.
 pub mod Record
-pub mod Answer
+pub mod Reply
 pub mod Reset
 pub mod Registers
 pub mod I2ccon

@@ -7,7 +7,7 @@ use Rattle.notation.specs.Choice.{if_then_else_}
 use Rattle.controller.specs.declared.record.Controller.{Controller}
 use Rattle.controller.specs.declared.record.Registers.{Registers}
 use Rattle.controller.specs.Record.{place, withPlace, withHand, withPointer, withArmed, withRegisters}
-use Rattle.controller.specs.Answer.{Outcome, refuses, accepts}
+use Rattle.controller.specs.Reply.{Outcome, refuses, accepts}
 use Rattle.controller.specs.Reset.{writePreset}
 
 -- an accepted write that is no A5h to I2CPRESET: it disarms the software reset

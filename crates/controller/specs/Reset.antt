@@ -9,7 +9,7 @@ use Rattle.control.specs.declared.turn.Turn.the-variants.{Off}
 use Rattle.controller.specs.declared.record.Controller.{Controller}
 use Rattle.controller.specs.declared.record.Registers.{Registers}
 use Rattle.controller.specs.Record.{withArmed}
-use Rattle.controller.specs.Answer.{Outcome, accepts}
+use Rattle.controller.specs.Reply.{Outcome, accepts}
 
 -- "I2CCOUNT 01h, I2CADR E0h, 02h 9Dh, 03h 86h, I2CTO FFh, I2CMODE 00h"
 abbrev pub resetRegisters : Registers

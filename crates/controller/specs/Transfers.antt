@@ -9,7 +9,7 @@ use Rattle.control.specs.declared.turn.Called.the-variants.{Own, General}
 use Rattle.control.specs.Turns.{address, send, receive, slaveReceive, slaveSend, waits, calledOf}
 use Rattle.controller.specs.declared.record.Controller.{Controller}
 use Rattle.controller.specs.Record.{place, byteCount, lastByte, withPlace, withMoved}
-use Rattle.controller.specs.Answer.{Outcome, refuses, accepts, gives}
+use Rattle.controller.specs.Reply.{Outcome, refuses, accepts, gives}
 
 -- "In Byte mode events 6 and 7 move place 0 .. In Buffered mode they move place 0, then 1, and so on"
 unfoldable pub cursor : Controller → ℕ

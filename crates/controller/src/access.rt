@@ -1,11 +1,11 @@
 // Reading and writing any register.
-use crate::answer::Refusal;
-use crate::answer::Reply;
 use crate::record::Controller;
+use crate::reply::Reply;
+use answer::Refusal;
 ghost use mathlib.Core.Path.{_≡_};
 ghost use mathlib.Core.Bool.{true};
 ghost use Rattle.controller.specs.Record.{sound};
-ghost use Rattle.controller.specs.Answer.{outcomeOf};
+ghost use Rattle.controller.specs.Reply.{outcomeOf};
 ghost use Rattle.controller.specs.Accesses.{barsRead, barsWrite, closedAt, readSound, readOf, writeSound, writeOf};
 
 impl Controller {

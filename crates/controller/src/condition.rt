@@ -1,15 +1,15 @@
 // Bus conditions and address bytes: events 1 to 5 and 8 to 13.
-use crate::answer::Refusal;
-use crate::answer::Reply;
 use crate::record::Controller;
+use crate::reply::Reply;
 use address::AddressByte;
 use address::Direction;
 use address::Match;
 use address::match_address;
+use answer::Refusal;
 use control::turn::Edge;
 use control::turn::Turn;
 ghost use mathlib.Core.Path.{_≡_};
-ghost use Rattle.controller.specs.Answer.{outcomeOf};
+ghost use Rattle.controller.specs.Reply.{outcomeOf};
 ghost use Rattle.controller.specs.Conditions.{ownStart, otherStart, otherStop, ownStop, matches, addressed, addressByte, outbid, addressLost, dataLost, illegalEdge, dataHeld, clockHeld, idle};
 
 impl Controller {

@@ -1,13 +1,13 @@
 // Writing I2CCON.
-use crate::answer::Refusal;
-use crate::answer::Reply;
 use crate::record::Controller;
+use crate::reply::Reply;
+use answer::Refusal;
 use control::flags::Control;
 use control::turn::Turn;
 use control::writing::Response;
 use control::writing::respond;
 ghost use mathlib.Core.Path.{_≡_};
-ghost use Rattle.controller.specs.Answer.{outcomeOf};
+ghost use Rattle.controller.specs.Reply.{outcomeOf};
 ghost use Rattle.controller.specs.I2ccon.{keeps, controlled, badCount, enabled, writeFlags, writeControl};
 
 // The flags that a write leaves: STO is stored only where it leads to Stopping.

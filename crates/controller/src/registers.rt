@@ -1,11 +1,11 @@
 // INDPTR, I2CDAT and the registers at the pointer.
-use crate::answer::Refusal;
-use crate::answer::Reply;
 use crate::record::Controller;
 use crate::record::Registers;
+use crate::reply::Reply;
+use answer::Refusal;
 ghost use mathlib.Core.Path.{_≡_};
 ghost use Prim.Native.Nat.{_≤_};
-ghost use Rattle.controller.specs.Answer.{outcomeOf};
+ghost use Rattle.controller.specs.Reply.{outcomeOf};
 ghost use Rattle.controller.specs.Registers.{wrote, writePointer, readData, writeData, atPointer, stored, writeAtPointer};
 
 impl Registers {

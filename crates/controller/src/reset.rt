@@ -1,11 +1,11 @@
 // The reset pin, the software reset, and the fresh controller.
-use crate::answer::Reply;
 use crate::record::Controller;
 use crate::record::Registers;
+use crate::reply::Reply;
 use control::flags::Control;
 use control::turn::Turn;
 ghost use mathlib.Core.Path.{_≡_};
-ghost use Rattle.controller.specs.Answer.{outcomeOf};
+ghost use Rattle.controller.specs.Reply.{outcomeOf};
 ghost use Rattle.controller.specs.Reset.{reset, resetWith, fresh, completesReset, writePreset};
 
 fn reset_with(buffer: [u8; 68]) -> Controller

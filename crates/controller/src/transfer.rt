@@ -1,14 +1,14 @@
 // Bytes out and in: events 6 and 7.
-use crate::answer::Refusal;
-use crate::answer::Reply;
 use crate::record::Controller;
+use crate::reply::Reply;
+use answer::Refusal;
 use control::turn::Called;
 use control::turn::Turn;
 ghost use mathlib.Core.Path.{_≡_};
 ghost use mathlib.Core.Bool.{true};
 ghost use Prim.Native.Nat.{_<_};
 ghost use Rattle.controller.specs.Record.{sound};
-ghost use Rattle.controller.specs.Answer.{outcomeOf};
+ghost use Rattle.controller.specs.Reply.{outcomeOf};
 ghost use Rattle.controller.specs.Transfers.{cursor, isLast, dataOut, addressStatus, byteOut, acknowledgesLast, received, dataIn, slaveIn, byteIn};
 
 // The status after an address byte that was acknowledged (0) or not (1).

@@ -1,5 +1,6 @@
 use mathlib.Core.Path.{refl}
-use Rattle.controller.specs.Answer.{outcomeOf, refusalOf, valueOf, accepts}
+use Rattle.controller.specs.Reply.{outcomeOf, accepts}
+use Rattle.answer.specs.Number.{refusalOf, valueOf}
 use Rattle.controller.proofs.record.Controller.accept.Statement.{statement}
 use Rattle.controller.proofs.record.Controller.accept.Tie as tie
 

@@ -1,6 +1,6 @@
 use mathlib.Core.Path.{ap, _∙_}
 use Rattle.controller.specs.declared.record.Controller.{Controller}
-use Rattle.controller.specs.Answer.{accepts, interruptsAt}
+use Rattle.controller.specs.Reply.{accepts, interruptsAt}
 use borrow.Author.Needs.{needs}
 use Rattle.controller.proofs.record.Controller.interrupt.Statement.{statement}
 use Rattle.controller.proofs.record.Controller.interrupt.Tie as tie

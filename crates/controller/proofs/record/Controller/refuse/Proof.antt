@@ -1,5 +1,6 @@
 use mathlib.Core.Path.{refl}
-use Rattle.controller.specs.Answer.{outcomeOf, refusalOf, valueOf, refuses}
+use Rattle.controller.specs.Reply.{outcomeOf, refuses}
+use Rattle.answer.specs.Number.{refusalOf, valueOf}
 use Rattle.controller.proofs.record.Controller.refuse.Statement.{statement}
 use Rattle.controller.proofs.record.Controller.refuse.Tie as tie
 

@@ -1,6 +1,6 @@
 use mathlib.Core.Path.{ap, _∙_}
 use Rattle.controller.specs.declared.record.Controller.{Controller}
-use Rattle.controller.specs.Answer.{accepts, waitsFor}
+use Rattle.controller.specs.Reply.{accepts, waitsFor}
 use borrow.Author.Needs.{needs}
 use Rattle.controller.proofs.record.Controller.wait_for.Statement.{statement}
 use Rattle.controller.proofs.record.Controller.wait_for.Tie as tie

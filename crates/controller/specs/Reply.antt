@@ -5,35 +5,9 @@ use Rattle.control.specs.declared.turn.Turn.the-variants.{Host}
 use Rattle.control.specs.declared.turn.Edge.{Edge}
 use Rattle.control.specs.declared.turn.Edge.the-variants.{Stop}
 use Rattle.controller.specs.declared.record.Controller.{Controller}
-use Rattle.controller.specs.declared.answer.Refusal.{Refusal}
-use Rattle.controller.specs.declared.answer.Refusal.the-variants.{NoSuchPlace, BadArgument, OnTheWire, Locked, Unlisted, BadCount, BufferEnd, Unexpected, Inaccessible, Unsound}
-use Rattle.controller.specs.declared.answer.Answer.{Answer}
-use Rattle.controller.specs.declared.answer.Answer.the-variants.{Accepted, Refused}
-use Rattle.controller.specs.declared.answer.Reply.{Reply}
+use Rattle.answer.specs.Number.{refusalOf, valueOf}
+use Rattle.controller.specs.declared.reply.Reply.{Reply}
 use Rattle.controller.specs.Record.{withTurn, withHand}
-
--- the paper's number of each refusal
-abbrev pub numberOf : Refusal → ℕ
-numberOf NoSuchPlace = 1
-numberOf BadArgument = 2
-numberOf OnTheWire = 3
-numberOf Locked = 4
-numberOf Unlisted = 5
-numberOf BadCount = 6
-numberOf BufferEnd = 7
-numberOf Unexpected = 8
-numberOf Inaccessible = 9
-numberOf Unsound = 10
-
--- the number of an answer, 0 where it is accepted
-unfoldable pub refusalOf : Answer → ℕ
-refusalOf (Accepted value) = 0
-refusalOf (Refused why) = numberOf why
-
--- the value of an answer: "The value returned is 0" of a refusal
-unfoldable pub valueOf : Answer → ℕ
-valueOf (Accepted value) = value
-valueOf (Refused why) = 0
 
 -- The next record with the answer in the paper's numbers.
 pub record Outcome : Type 0 where

@@ -1,30 +1,14 @@
-// What an access or event answers, and the few ways in which a rule ends.
+// What an access or event hands back, and the few ways in which a rule ends.
 use crate::record::Controller;
+use answer::Answer;
+use answer::Refusal;
 use control::turn::Edge;
 use control::turn::Turn;
 ghost use mathlib.Core.Path.{_≡_};
 ghost use Rattle.control.specs.declared.turn.Edge.the-variants.{Stop};
 ghost use Rattle.controller.specs.Record.{withTurn};
-ghost use Rattle.controller.specs.Answer.{numberOf, outcomeOf, refuses, accepts, waitsFor, interruptsAt};
-
-// Why an access or event is refused. The paper's number of each is `numberOf` in specs/Answer.antt.
-pub enum Refusal {
-    NoSuchPlace,
-    BadArgument,
-    OnTheWire,
-    Locked,
-    Unlisted,
-    BadCount,
-    BufferEnd,
-    Unexpected,
-    Inaccessible,
-    Unsound,
-}
-
-pub enum Answer {
-    Accepted(u8),
-    Refused(Refusal),
-}
+ghost use Rattle.answer.specs.Number.{numberOf};
+ghost use Rattle.controller.specs.Reply.{outcomeOf, refuses, accepts, waitsFor, interruptsAt};
 
 pub struct Reply {
     pub controller: Controller,

@@ -1,0 +1,2 @@
+-- Answers in document 01's numbers.
+pub mod Number
