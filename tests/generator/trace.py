@@ -1,0 +1,131 @@
+"""A trace in the making, with the model beside it, and what has been covered."""
+
+import model
+
+TRACES = []                  # every trace, in the order made
+SEEN_EVENTS = set()          # (turn, event)
+SEEN_CONTROL = set()         # (place, STA, STO, AA, MODE), ENSIO 1
+SEEN_OFF = set()             # (place), ENSIO 0
+SEEN_REFUSALS = set()
+SEEN_STATUSES = set()
+
+TURNS = ("Off", "Free", "Busy", "Listen", "Address", "Send", "Receive",
+         "SlaveReceive own", "SlaveReceive general", "SlaveSend",
+         "Stopping", "Restarting")
+WIRE = TURNS[4:]
+HOSTS = ("00", "08", "10", "18", "20", "28", "30", "38", "40", "48", "50",
+         "58", "60", "68", "70", "78", "80", "88", "A0 stop", "A0 start",
+         "A8", "B0", "B8", "C0", "C8", "D0", "D8", "E0", "E8")
+SOME_HOSTS = ("00", "08", "18", "38", "58", "60", "70", "78", "A0 stop",
+              "A0 start", "B8", "E8")
+
+
+def place(c):
+    """A turn with its detail, or for Host the status with its detail."""
+    t = c.turn
+    name = f"{t.status:02X}" if t.name == "Host" else t.name
+    return name + (" " + t.detail if t.detail else "")
+
+
+def snapshot(c):
+    return {**vars(c), "buffer": list(c.buffer)}
+
+
+def outcome(c, before, kind, n, number, value):
+    """A few words on what a group did."""
+    if number:
+        return f"refused {number}"
+    if kind == 0:
+        return f"reads {value:02X}h"
+    now = place(c)
+    words = now + "h" if len(now) == 2 else now
+    if now.startswith("A0 "):
+        words = "A0h after a " + now[3:].upper()
+    if kind == 1 and n != 3:
+        words = "accepted"
+        if before["armed"] and n == 2 and c.pointer == 0:
+            return "reset"
+        if c.armed:
+            words = "armed"
+    if snapshot(c) == before and not c.armed:
+        words = "no change"
+    if before["armed"] and not c.armed and kind == 1:
+        words += ", disarmed"
+    if kind == 2 and n == 6:
+        words += f", byte {value:02X}h"
+    if kind == 2 and n in (5, 7, 8):
+        words += ", NACK" if value else ", ACK"
+    return words
+
+
+class Trace:
+    """One trace; the model runs beside it, so that asserts can be made."""
+
+    def __init__(self, name, title):
+        self.name = name
+        self.lines = ["# " + title]
+        self.c = model.Controller()
+        self.refused = 0             # how many groups were refused so far
+        TRACES.append(self)
+
+    def note(self, text):
+        self.lines += ["# " + text]
+
+    def raw(self, *data, text=""):
+        body = " ".join(f"{b:02X}" for b in data)
+        self.lines.append(body + ("  # " + text if text else ""))
+
+    def put(self, kind, a, b, show):
+        c = self.c
+        was, before = place(c), snapshot(c)
+        number, value = model.group(c, kind, a, b)
+        note_cover(c, was, before, kind, a, b, number)
+        self.refused += number != 0
+        text = show or ""
+        if text.endswith(":"):
+            text += " " + outcome(c, before, kind, a, number, value)
+        self.raw(kind, a, b, text=text)
+        return number
+
+    def rd(self, reg, show=None, third=0):
+        return self.put(0, reg, third, show)
+
+    def wr(self, reg, v, show=None):
+        return self.put(1, reg, v, show)
+
+    def ev(self, n, a=0, show=None):
+        return self.put(2, n, a, show)
+
+    def text(self):
+        return "\n".join(self.lines) + "\n"
+
+
+def note_cover(c, was, before, kind, a, b, number):
+    """Keeps what has been covered; checks what must hold after a group."""
+    assert model.sound(c)
+    turn = "Host" if before["turn"].name == "Host" else was
+    if kind == 2:
+        SEEN_EVENTS.add((turn, a))
+    if kind == 1 and a == 3:
+        bits = (b >> 5 & 1, b >> 4 & 1, b >> 7, b & 1)
+        if b & model.ENSIO:
+            SEEN_CONTROL.add((was,) + bits)
+        else:
+            SEEN_OFF.add(was)
+    SEEN_REFUSALS.add(number)
+    SEEN_STATUSES.add(c.status())
+    if number:
+        assert snapshot(c) == before, "a refusal leaves the record"
+
+
+def parse(text):
+    """The raw bytes of a stored trace."""
+    out = b""
+    for line in text.splitlines():
+        line = line.split("#")[0].strip()
+        if line.startswith("repeat "):
+            times, body = line[7:].split(":")
+            out += bytes.fromhex(body) * int(times)
+        else:
+            out += bytes.fromhex(line)
+    return out
