@@ -1,4 +1,6 @@
-"""I2CCON writes at every status, with every combination of flags."""from trace import TURNS, Trace
+"""I2CCON writes at every status, with every combination of flags."""
+
+from trace import TURNS, Trace
 from reach import address, bits_text, con, reach, show_registers, start
 from reach import address, bits_text, con, reach, show_registers, start
 

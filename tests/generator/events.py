@@ -1,4 +1,6 @@
-"""Every event in every turn, with each flag that its rule names both ways."""from trace import HOSTS, SOME_HOSTS, TURNS, Trace
+"""Every event in every turn, with each flag that its rule names both ways."""
+
+from trace import HOSTS, SOME_HOSTS, TURNS, Trace
 from reach import address, con, reach
 from trace import HOSTS, SOME_HOSTS, TURNS, Trace, place
 

@@ -1,4 +1,6 @@
-"""Buffered moves of 68 bytes each way."""from trace import Trace
+"""Buffered moves of 68 bytes each way."""
+
+from trace import Trace
 from reach import con, dump, fill, pattern, reach, show_registers
 from trace import Trace, place
 

@@ -1,4 +1,6 @@
-"""Every refusal, and the neighbouring pairs of the table."""from trace import Trace, WIRE
+"""Every refusal, and the neighbouring pairs of the table."""
+
+from trace import Trace, WIRE
 from reach import bits_text, reach, start
 from reach import bits_text, reach, start
 

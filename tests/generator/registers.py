@@ -1,4 +1,6 @@
-"""Registers, I2CDAT and the hand place."""from trace import HOSTS, Trace
+"""Registers, I2CDAT and the hand place."""
+
+from trace import HOSTS, Trace
 from reach import dump, fill, reach, show_registers, start
 from reach import dump, fill, reach, show_registers, start
 
