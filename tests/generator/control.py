@@ -1,8 +1,8 @@
 """I2CCON writes at every status, with every combination of flags."""
 
+from reach import address, bits_text, con, reach, show_registers, start
 from trace import TURNS, Trace
-from reach import address, bits_text, con, reach, show_registers, start
-from reach import address, bits_text, con, reach, show_registers, start
+
 
 CONTROL_GROUPS = {
     "idle": ("Off", "Free", "Busy", "Listen"),

@@ -1,8 +1,7 @@
 """Every event in every turn, with each flag that its rule names both ways."""
 
+from reach import con, reach
 from trace import HOSTS, SOME_HOSTS, TURNS, Trace
-from reach import address, con, reach
-from trace import HOSTS, SOME_HOSTS, TURNS, Trace, place
 
 
 STA_FREE = ("Free", "Busy", "Listen", "Address", "SlaveReceive own",

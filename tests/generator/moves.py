@@ -1,8 +1,7 @@
 """Buffered moves of 68 bytes each way."""
 
-from trace import Trace
 from reach import con, dump, fill, pattern, reach, show_registers
-from trace import Trace, place
+from trace import Trace
 
 
 READ_AT = (0, 1, 20, 34, 67)     # moved counts at which 07h is read

@@ -1,8 +1,8 @@
 """Every refusal, and the neighbouring pairs of the table."""
 
+from reach import bits_text, reach, start
 from trace import Trace, WIRE
-from reach import bits_text, reach, start
-from reach import bits_text, reach, start
+
 
 def make_refusals():
     t = Trace("refusals", "Every refusal number, and two lines at once")

@@ -1,8 +1,8 @@
 """Registers, I2CDAT and the hand place."""
 
+from reach import dump, fill, reach, show_registers, start
 from trace import HOSTS, Trace
-from reach import dump, fill, reach, show_registers, start
-from reach import dump, fill, reach, show_registers, start
+
 
 def make_registers():
     t = Trace("registers", "Registers, reset values, hand place, buffer")

@@ -2,6 +2,7 @@
 
 import model
 
+
 TRACES = []                  # every trace, in the order made
 SEEN_EVENTS = set()          # (turn, event)
 SEEN_CONTROL = set()         # (place, STA, STO, AA, MODE), ENSIO 1
