@@ -1,15 +1,15 @@
 -- "Is one of these numbers", from what an arm of a `match` knows. `OneOf ks x` is what the arm `k | k′ => ..` of a match on x says.
 -- Assumes nothing.
-use mathlib.Core.Bool.{Bool, true, false, not}
+use mathlib.Core.Bool.{Bool, true, false, not, true≢false, false≢true}
 use mathlib.Core.List.{List, [], _∷_}
 use mathlib.Core.Logic.{_⊎_, inl, inr}
-use mathlib.Core.Path.{_≡_, refl, sym, ap, subst, _∙_}
+use mathlib.Core.Path.{_≡_, refl, sym, ap, _∙_}
 use Prim.Native.Nat.{ℕ}
-use borrow.Author.Tests.{eq-eqb, ne-eqb}
+use borrow.Author.Tests.{eqb-true, ne-eqb}
 use lib.Dec.{T, eqb}
 use types.Run.{OneOf}
 use Rattle.notation.specs.Choice.{if_then_else_, among}
-use Rattle.notation.proofs.Cases.{if-true, if-false}
+use Rattle.notation.proofs.Cases.{if-false}
 
 -- `among` as a test that computes on numerals with nothing unfolded
 abbrev pub has : List ℕ → ℕ → Bool
@@ -29,6 +29,10 @@ is-same true true t = refl
 is-same true false t = absurd t
 is-same false true t = absurd t
 is-same false false t = refl
+
+is-true : (b : Bool) → T b → b ≡ true
+is-true true t = refl
+is-true false t = absurd t
 
 every-head : (f : ℕ → Bool) (k : ℕ) (ks : List ℕ) → T (every f (k ∷ ks)) → T (f k)
 every-head f k ks t = go (f k) t
@@ -74,3 +78,20 @@ none-of (k ∷ j ∷ ks) x n = if-false (eqb x k) true (among x (j ∷ ks)) (ne-
 -- the arm of one number
 pub key-is : (k x : ℕ) → x ≡ k → (v : Bool) (j : ℕ) → eqb k j ≡ v → eqb x j ≡ v
 key-is k x e v j h = ap (λ (n : ℕ). eqb n j) e ∙ h
+
+-- a list within another
+pub within : (x : ℕ) (ks ls : List ℕ) → T (every (has ls) ks) → among x ks ≡ true → among x ls ≡ true
+unfolding among
+within x [] ls t e = absurd (false≢true e)
+within x (k ∷ ks) ls t e = step (eqb x k) refl (within x ks ls (every-tail (has ls) k ks t))
+  where
+    step : (b : Bool) → eqb x k ≡ b → (among x ks ≡ true → among x ls ≡ true) → among x ls ≡ true
+    step true q later = among-has x ls ∙ ap (has ls) (eqb-true x k q) ∙ is-true (has ls k) (every-head (has ls) k ks t)
+    step false q later = later (sym (if-false (eqb x k) true (among x ks) q) ∙ e)
+
+pub without : (x : ℕ) (ks ls : List ℕ) → T (every (has ls) ks) → among x ls ≡ false → among x ks ≡ false
+without x ks ls t e = step (among x ks) refl
+  where
+    step : (b : Bool) → among x ks ≡ b → among x ks ≡ false
+    step true q = absurd (true≢false (sym (within x ks ls t q) ∙ e))
+    step false q = q

@@ -1,6 +1,6 @@
 -- What a test's outcome makes of a rule. `search cases` closes most returns of a function that tests what its rule tests.
 -- Assumes nothing.
-use mathlib.Core.Bool.{Bool, true, false, false≢true}
+use mathlib.Core.Bool.{Bool, true, false, true≢false, false≢true}
 use mathlib.Core.Path.{_≡_, refl, sym, _∙_}
 use borrow.Author.Tests.{lt-ltb, le-ltb, le-leb, lt-leb, eq-eqb, ne-eqb}
 use borrow.Author.Needs.{needs}
@@ -61,6 +61,16 @@ pub and-right : (a b : Bool) → (a and b) ≡ true → b ≡ true
 unfolding _and_
 and-right true b e = e
 and-right false b e = absurd (false≢true e)
+
+pub or-left-off : (a b : Bool) → (a or b) ≡ false → a ≡ false
+unfolding _or_
+or-left-off true b e = e
+or-left-off false b e = refl
+
+pub or-right-off : (a b : Bool) → (a or b) ≡ false → b ≡ false
+unfolding _or_
+or-right-off true b e = absurd (true≢false e)
+or-right-off false b e = e
 
 -- a rule is proved by its two branches, each knowing the test's outcome
 pub split : {A : Type 0} (P : A → Type 0) (b : Bool) (x y : A) → (b ≡ true → P x) → (b ≡ false → P y) → P (if b then x else y)

@@ -1,0 +1,115 @@
+-- When an outcome's record is sound: by the ends that every rule has.
+-- Assumes nothing.
+use mathlib.Core.Bool.{Bool, true, false, not, true≢false, false≢true}
+use mathlib.Core.List.{List, [], _∷_}
+use mathlib.Core.Path.{_≡_, refl, sym, ap, _∙_}
+use Prim.Native.Nat.{ℕ, _≤_, _<_, _+_, _%_}
+use native.Mathlib.Omega.{arith}
+use borrow.Author.Tests.{leb-true, leb-false, ltb-true, ltb-false, eqb-true, eqb-false, le-leb, lt-ltb, ne-eqb}
+use lib.Dec.{T, eqb, leb, ltb, lit≤}
+use Rattle.notation.specs.Choice.{if_then_else_, _and_, _or_, among}
+use Rattle.notation.proofs.Cases.{if-true, if-false, and-true, and-left, and-right, split}
+use Rattle.notation.proofs.Among.{has, among-has}
+use Rattle.address.specs.declared.Direction.the-variants.{Write, Read}
+use Rattle.address.specs.declared.Match.{Match}
+use Rattle.address.specs.declared.Match.the-variants.{Own, General, Nothing}
+use Rattle.control.specs.declared.flags.Control.{Control}
+use Rattle.control.specs.declared.turn.Turn.{Turn}
+use Rattle.control.specs.declared.turn.Turn.the-variants as turn
+use Rattle.control.specs.declared.turn.Edge.{Edge}
+use Rattle.control.specs.Turns.{host, wireTurns, dataTurns, kind, statusOf}
+use Rattle.controller.specs.declared.record.Controller.{Controller}
+use Rattle.controller.specs.Record.{byteCount, givenStatuses, hostSound, moveSound, sound, withTurn, withHand, withMoved}
+use Rattle.controller.specs.Reply.{Outcome, refuses, accepts, waitsFor, interruptsAt}
+use Rattle.controller.specs.Reset.{resetWith, writePreset}
+use Rattle.controller.proofs.Soundness.{Sound, parts, whole}
+
+-- the outcome's record is sound
+pub record Kept (o : Outcome) : Type 0 where
+  pub next-sound : sound (o .next) ≡ true
+
+-- the ranges of a sound record that do not depend on the turn
+pub record Ranges (c : Controller) : Type 0 where
+  pub pointer : c .pointer ≤ 7
+  pub hand : c .hand ≤ 68
+  pub moved : c .moved ≤ 68
+  pub speed : c .registers .speed ≤ 3
+
+pub ranges : (c : Controller) → sound c ≡ true → Ranges c
+ranges c s = let p = parts c s in record { pointer = p .pointer; hand = p .hand; moved = p .moved; speed = p .speed }
+
+-- a turn that is neither Host nor moves data asks for the ranges alone
+abbrev pub Quiet : Turn → Type 0
+Quiet t = (among (kind t) (host ∷ []) ≡ false) × (among (kind t) dataTurns ≡ false)
+
+pub quiet-sound : (c : Controller) → Ranges c → Quiet (c .turn) → sound c ≡ true
+unfolding hostSound moveSound
+quiet-sound c r q =
+    whole c (record {
+      pointer = r .pointer;
+      hand = r .hand;
+      moved = r .moved;
+      speed = r .speed;
+      host = if-false _ _ _ (q .0);
+      move = if-false _ _ _ (q .1);
+    })
+
+-- Host at a status that the rules give
+pub host-sound : (c : Controller) (status : ℕ) (edge : Edge) → Ranges c → T (has givenStatuses status) → c .turn ≡ turn.Host status edge → sound c ≡ true
+unfolding hostSound moveSound kind statusOf
+host-sound c status edge r g e =
+    whole c (record {
+      pointer = r .pointer;
+      hand = r .hand;
+      moved = r .moved;
+      speed = r .speed;
+      host = rw e (if-true (among 1 (1 ∷ [])) _ _ (among-has 1 (1 ∷ [])) ∙ among-has status givenStatuses ∙ is-true _ g);
+      move = rw e (if-false (among 1 dataTurns) _ _ (among-has 1 dataTurns));
+    })
+  where
+    is-true : (b : Bool) → T b → b ≡ true
+    is-true true t = refl
+    is-true false t = absurd t
+
+-- the ends of the rules
+pub refused : (c : Controller) (n : ℕ) → sound c ≡ true → Kept (refuses c n)
+unfolding refuses
+refused c n s = record { next-sound = s }
+
+pub accepted : (c : Controller) (v : ℕ) → sound c ≡ true → Kept (accepts c v)
+unfolding accepts
+accepted c v s = record { next-sound = s }
+
+pub waiting : (c : Controller) (t : Turn) (v : ℕ) → Ranges c → Quiet t → Kept (waitsFor c t v)
+unfolding waitsFor
+waiting c t v r q =
+    accepted _ v
+    (quiet-sound (withTurn c t) (record { pointer = r .pointer; hand = r .hand; moved = r .moved; speed = r .speed }) q)
+
+pub interrupted : (c : Controller) (status : ℕ) (edge : Edge) (v : ℕ) → Ranges c → T (has givenStatuses status) → Kept (interruptsAt c status edge v)
+unfolding interruptsAt
+interrupted c status edge v r g =
+    accepted _ v
+    (host-sound (withHand (withTurn c (turn.Host status edge)) 0) status edge
+    (record { pointer = r .pointer; hand = lit≤ tt; moved = r .moved; speed = r .speed }) g refl)
+
+pub either : (b : Bool) (x y : Outcome) → Kept x → Kept y → Kept (if b then x else y)
+either b x y p q = split Kept b x y (λ e. p) (λ e. q)
+
+pub free-quiet : Quiet turn.Free
+unfolding kind
+free-quiet = (among-has 2 (1 ∷ []), among-has 2 dataTurns)
+
+pub busy-quiet : Quiet turn.Busy
+unfolding kind
+busy-quiet = (among-has 3 (1 ∷ []), among-has 3 dataTurns)
+
+pub listen-quiet : Quiet turn.Listen
+unfolding kind
+listen-quiet = (among-has 4 (1 ∷ []), among-has 4 dataTurns)
+
+pub off-quiet : Quiet turn.Off
+unfolding kind
+off-quiet = (among-has 0 (1 ∷ []), among-has 0 dataTurns)
+
+pub ruleset ends = (refused, accepted, waiting, interrupted, either, free-quiet, busy-quiet, listen-quiet, off-quiet, ranges, tt)

@@ -1,0 +1,7 @@
+-- Laws of the controller that a reader will ask for.
+pub mod Refusals
+pub mod Kept
+pub mod KeptEvents
+pub mod KeptAccesses
+pub mod Soundness
+pub mod Status

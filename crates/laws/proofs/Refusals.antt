@@ -1,0 +1,201 @@
+-- "The value returned is 0 and the whole record stays": a refused access or event changes nothing. Assumes nothing.
+use mathlib.Core.Bool.{Bool, true, false}
+use mathlib.Core.List.{List}
+use mathlib.Core.Path.{_≡_, refl}
+use Prim.Native.Nat.{ℕ}
+use Rattle.notation.specs.Choice.{if_then_else_}
+use Rattle.address.specs.declared.Direction.the-variants.{Write, Read}
+use Rattle.address.specs.declared.Match.{Match}
+use Rattle.address.specs.declared.Match.the-variants.{Own, General, Nothing}
+use Rattle.control.specs.declared.flags.Control.{Control}
+use Rattle.control.specs.declared.turn.Turn.{Turn}
+use Rattle.control.specs.declared.turn.Edge.{Edge}
+use Rattle.control.specs.declared.turn.Called.{Called}
+use Rattle.control.specs.declared.turn.Called.the-variants as called
+use Rattle.control.specs.declared.writing.Response.{Response}
+use Rattle.control.specs.declared.writing.Response.the-variants.{Next, Unlisted}
+use Rattle.controller.specs.declared.record.Controller.{Controller}
+use Rattle.controller.specs.Reply.{Outcome, refuses, accepts, waitsFor, interruptsAt}
+use Rattle.controller.specs.Reset.{writePreset}
+use Rattle.controller.specs.Registers.{wrote, writePointer, readData, writeData, writeAtPointer}
+use Rattle.controller.specs.I2ccon.{controlled, enabled, writeFlags, writeControl}
+use Rattle.controller.specs.Accesses.{readSound, readOf, writeSound, writeOf}
+use Rattle.controller.specs.Conditions.{ownStart, otherStart, otherStop, ownStop, addressed, addressByte, outbid, addressLost, dataLost, illegalEdge, dataHeld, clockHeld, idle}
+use Rattle.controller.specs.Transfers.{dataOut, byteOut, dataIn, slaveIn, byteIn}
+use Rattle.controller.specs.Events.{eventSound, eventOf}
+
+-- an outcome that, where it refuses, keeps the record and has the value 0
+pub record Stays (c : Controller) (o : Outcome) : Type 0 where
+  pub record-kept : (o .refused ≡ 0 → ⊥) → o .next ≡ c
+  pub value-zero : (o .refused ≡ 0 → ⊥) → o .value ≡ 0
+
+-- the two ends of every rule, and the choice between rules
+refused : (c : Controller) (n : ℕ) → Stays c (refuses c n)
+unfolding refuses
+refused c n = record { record-kept = λ h. refl; value-zero = λ h. refl }
+
+accepted : (c d : Controller) (v : ℕ) → Stays c (accepts d v)
+unfolding accepts
+accepted c d v = record { record-kept = λ h. absurd (h refl); value-zero = λ h. absurd (h refl) }
+
+either : (c : Controller) (b : Bool) (x y : Outcome) → Stays c x → Stays c y → Stays c (if b then x else y)
+unfolding if_then_else_
+either c true x y p q = p
+either c false x y p q = q
+
+waiting : (c d : Controller) (t : Turn) (v : ℕ) → Stays c (waitsFor d t v)
+unfolding waitsFor
+waiting c d t v = accepted c _ v
+
+interrupted : (c d : Controller) (s : ℕ) (e : Edge) (v : ℕ) → Stays c (interruptsAt d s e v)
+unfolding interruptsAt
+interrupted c d s e v = accepted c _ v
+
+written : (c d : Controller) → Stays c (wrote d)
+unfolding wrote
+written c d = accepted c _ 0
+
+ruleset ends = (refused, accepted, either, waiting, interrupted, written)
+
+own-start : (c : Controller) → Stays c (ownStart c)
+unfolding ownStart
+own-start c = search ends
+
+other-start : (c : Controller) → Stays c (otherStart c)
+unfolding otherStart
+other-start c = search ends
+
+other-stop : (c : Controller) → Stays c (otherStop c)
+unfolding otherStop
+other-stop c = search ends
+
+own-stop : (c : Controller) → Stays c (ownStop c)
+unfolding ownStop
+own-stop c = search ends
+
+data-lost : (c : Controller) → Stays c (dataLost c)
+unfolding dataLost
+data-lost c = search ends
+
+illegal-edge : (c : Controller) → Stays c (illegalEdge c)
+unfolding illegalEdge
+illegal-edge c = search ends
+
+data-held : (c : Controller) → Stays c (dataHeld c)
+unfolding dataHeld
+data-held c = search ends
+
+clock-held : (c : Controller) → Stays c (clockHeld c)
+unfolding clockHeld
+clock-held c = search ends
+
+idle-time : (c : Controller) → Stays c (idle c)
+unfolding idle
+idle-time c = search ends
+
+address-found : (c : Controller) (m : Match) → Stays c (addressed c m)
+unfolding addressed
+address-found c General = search ends
+address-found c (Own Write) = search ends
+address-found c (Own Read) = search ends
+address-found c Nothing = search ends
+
+address-byte : (c : Controller) (byte : ℕ) → Stays c (addressByte c byte)
+unfolding addressByte
+address-byte c byte = search (address-found, ends)
+
+outbid-found : (c : Controller) (m : Match) → Stays c (outbid c m)
+unfolding outbid
+outbid-found c General = search ends
+outbid-found c (Own Write) = search ends
+outbid-found c (Own Read) = search ends
+outbid-found c Nothing = search ends
+
+address-lost : (c : Controller) (byte : ℕ) → Stays c (addressLost c byte)
+unfolding addressLost
+address-lost c byte = search (outbid-found, ends)
+
+data-out : (c : Controller) (nack broken done : ℕ) → Stays c (dataOut c nack broken done)
+unfolding dataOut
+data-out c nack broken done = search ends
+
+byte-out : (c : Controller) (nack : ℕ) → Stays c (byteOut c nack)
+unfolding byteOut
+byte-out c nack = search (data-out, ends)
+
+data-in : (c : Controller) (byte taken ended : ℕ) → Stays c (dataIn c byte taken ended)
+unfolding dataIn
+data-in c byte taken ended = search ends
+
+slave-in : (c : Controller) (byte : ℕ) (w : Called) → Stays c (slaveIn c byte w)
+unfolding slaveIn
+slave-in c byte called.Own = data-in c byte 0x80 0x88
+slave-in c byte called.General = data-in c byte 0xE0 0xE8
+
+byte-in : (c : Controller) (byte : ℕ) → Stays c (byteIn c byte)
+unfolding byteIn
+byte-in c byte = search (data-in, slave-in, ends)
+
+ruleset events = (own-start, other-start, other-stop, own-stop, address-byte, byte-out, byte-in, address-lost, data-lost, illegal-edge, data-held, clock-held, idle-time, ends)
+
+event-sound : (c : Controller) (number argument : ℕ) → Stays c (eventSound c number argument)
+unfolding eventSound
+event-sound c number argument = search events depth 20
+
+write-preset : (c : Controller) (value : ℕ) → Stays c (writePreset c value)
+unfolding writePreset
+write-preset c value = search ends
+
+write-pointer : (c : Controller) (value : ℕ) → Stays c (writePointer c value)
+unfolding writePointer
+write-pointer c value = search ends
+
+read-data : (c : Controller) → Stays c (readData c)
+unfolding readData
+read-data c = search ends
+
+write-data : (c : Controller) (value : ℕ) → Stays c (writeData c value)
+unfolding writeData
+write-data c value = search ends
+
+write-at-pointer : (c : Controller) (value : ℕ) → Stays c (writeAtPointer c value)
+unfolding writeAtPointer
+write-at-pointer c value = search (write-preset, ends)
+
+control-written : (c : Controller) (k : Control) (t : Turn) → Stays c (controlled c k t)
+unfolding controlled
+control-written c k t = search ends
+
+enabling : (c : Controller) (k : Control) (r : Response) → Stays c (enabled c k r)
+unfolding enabled
+enabling c k Unlisted = search ends
+enabling c k (Next t) = search (control-written, ends)
+
+write-flags : (c : Controller) (k : Control) → Stays c (writeFlags c k)
+unfolding writeFlags
+write-flags c k = search (enabling, control-written, ends)
+
+write-control : (c : Controller) (value : ℕ) → Stays c (writeControl c value)
+unfolding writeControl
+write-control c value = search write-flags
+
+read-sound : (c : Controller) (register : ℕ) → Stays c (readSound c register)
+unfolding readSound
+read-sound c register = search (read-data, ends) depth 12
+
+write-sound : (c : Controller) (register value : ℕ) → Stays c (writeSound c register value)
+unfolding writeSound
+write-sound c register value = search (write-pointer, write-data, write-at-pointer, write-control, ends) depth 12
+
+-- The three laws: every read, every write and every event, of any record whatever.
+pub read-stays : (c : Controller) (register : ℕ) → Stays c (readOf c register)
+unfolding readOf
+read-stays c register = search (read-sound, ends)
+
+pub write-stays : (c : Controller) (register value : ℕ) → Stays c (writeOf c register value)
+unfolding writeOf
+write-stays c register value = search (write-sound, ends)
+
+pub event-stays : (c : Controller) (number argument : ℕ) → Stays c (eventOf c number argument)
+unfolding eventOf
+event-stays c number argument = search (event-sound, ends) depth 8

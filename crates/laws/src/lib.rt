@@ -1,0 +1,1 @@
+// Laws of the controller, as theorems over its rules. Nothing here runs.
