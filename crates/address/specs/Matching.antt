@@ -2,11 +2,11 @@
 use mathlib.Core.Bool.{Bool}
 use Prim.Native.Nat.{ℕ, _/_, _%_}
 use lib.Dec.{eqb, ltb}
-use Rattle.notation.specs.Choice.{if_then_else_, _and_}
-use Rattle.address.specs.declared.AddressByte.{AddressByte}
-use Rattle.address.specs.declared.Match.{Match}
-use Rattle.address.specs.declared.Match.the-variants.{Own, General, Nothing}
 use Rattle.address.specs.Number.{addressOf, directionOf}
+use Rattle.address.specs.declared.AddressByte.{AddressByte}
+use Rattle.address.specs.declared.Match.the-variants.{Own, General, Nothing}
+use Rattle.address.specs.declared.Match.{Match}
+use Rattle.notation.specs.Choice.{if_then_else_, _and_}
 
 -- "Byte 00h with .. GC"
 unfoldable pub callsAll : ℕ → AddressByte → Bool

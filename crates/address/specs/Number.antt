@@ -1,13 +1,12 @@
 -- "The seven-bit address and the address byte are kept apart as two kinds of number: byte = 2 x address + R, with R 1 for a read."
 -- (document 01, The controller record)
-use mathlib.Core.Bool.{Bool}
 use Prim.Native.Nat.{ℕ, _+_, _*_, _/_, _%_}
 use lib.Dec.{eqb}
-use Rattle.notation.specs.Choice.{if_then_else_}
 use Rattle.address.specs.declared.Address.{Address}
 use Rattle.address.specs.declared.AddressByte.{AddressByte}
-use Rattle.address.specs.declared.Direction.{Direction}
 use Rattle.address.specs.declared.Direction.the-variants.{Write, Read}
+use Rattle.address.specs.declared.Direction.{Direction}
+use Rattle.notation.specs.Choice.{if_then_else_}
 
 -- R, the lowest bit
 unfoldable pub bitOf : Direction → ℕ

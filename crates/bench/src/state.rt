@@ -4,7 +4,6 @@ use crate::line::put_decimal;
 use crate::line::put_hex;
 use crate::line::put_word;
 use crate::line::write;
-use answer::Answer;
 use control::turn::Called;
 use control::turn::Edge;
 use control::turn::Turn;

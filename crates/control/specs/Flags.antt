@@ -3,8 +3,8 @@
 use mathlib.Core.Bool.{Bool}
 use Prim.Native.Nat.{ℕ, _+_, _/_, _%_}
 use lib.Dec.{eqb}
-use Rattle.notation.specs.Choice.{if_then_else_}
 use Rattle.control.specs.declared.flags.Control.{Control}
+use Rattle.notation.specs.Choice.{if_then_else_}
 
 -- the flags in a written byte
 unfoldable pub flagsOf : ℕ → Control

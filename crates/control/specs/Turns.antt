@@ -3,13 +3,13 @@
 use mathlib.Core.Bool.{Bool}
 use mathlib.Core.List.{List, [], _∷_}
 use Prim.Native.Nat.{ℕ}
-use Rattle.notation.specs.Choice.{among}
-use Rattle.control.specs.declared.turn.Turn.{Turn}
-use Rattle.control.specs.declared.turn.Turn.the-variants.{Off, Host, Free, Busy, Listen, Address, Send, Receive, SlaveReceive, SlaveSend, Stopping, Restarting}
-use Rattle.control.specs.declared.turn.Edge.{Edge}
-use Rattle.control.specs.declared.turn.Edge.the-variants.{Stop}
-use Rattle.control.specs.declared.turn.Called.{Called}
 use Rattle.control.specs.declared.turn.Called.the-variants.{Own}
+use Rattle.control.specs.declared.turn.Called.{Called}
+use Rattle.control.specs.declared.turn.Edge.the-variants.{Stop}
+use Rattle.control.specs.declared.turn.Edge.{Edge}
+use Rattle.control.specs.declared.turn.Turn.the-variants.{Off, Host, Free, Busy, Listen, Address, Send, Receive, SlaveReceive, SlaveSend, Stopping, Restarting}
+use Rattle.control.specs.declared.turn.Turn.{Turn}
+use Rattle.notation.specs.Choice.{among}
 
 abbrev pub off : ℕ
 off = 0

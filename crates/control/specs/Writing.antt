@@ -1,17 +1,16 @@
 -- Document 01, Writing I2CCON: where an accepted write with ENSIO 1 leads.
-use mathlib.Core.Bool.{Bool}
-use mathlib.Core.List.{List, [], _∷_}
+use mathlib.Core.List.{[], _∷_}
 use Prim.Native.Nat.{ℕ}
-use Rattle.notation.specs.Choice.{if_then_else_, _or_, among}
-use Rattle.control.specs.declared.flags.Control.{Control}
-use Rattle.control.specs.declared.turn.Turn.{Turn}
-use Rattle.control.specs.declared.turn.Turn.the-variants.{Free, Busy, Listen, Address, Send, Receive, SlaveReceive, SlaveSend, Stopping, Restarting}
-use Rattle.control.specs.declared.turn.Edge.{Edge}
-use Rattle.control.specs.declared.turn.Edge.the-variants.{Stop, Start}
-use Rattle.control.specs.declared.turn.Called.the-variants.{Own, General}
-use Rattle.control.specs.declared.writing.Response.{Response}
-use Rattle.control.specs.declared.writing.Response.the-variants.{Next, Unlisted}
 use Rattle.control.specs.Turns.{off, host, waits, statusOf, edgeOf}
+use Rattle.control.specs.declared.flags.Control.{Control}
+use Rattle.control.specs.declared.turn.Called.the-variants.{Own, General}
+use Rattle.control.specs.declared.turn.Edge.the-variants.{Stop, Start}
+use Rattle.control.specs.declared.turn.Edge.{Edge}
+use Rattle.control.specs.declared.turn.Turn.the-variants.{Free, Busy, Listen, Address, Send, Receive, SlaveReceive, SlaveSend, Stopping, Restarting}
+use Rattle.control.specs.declared.turn.Turn.{Turn}
+use Rattle.control.specs.declared.writing.Response.the-variants.{Next, Unlisted}
+use Rattle.control.specs.declared.writing.Response.{Response}
+use Rattle.notation.specs.Choice.{if_then_else_, _or_, among}
 
 -- 18h, 20h, 28h, 30h, 48h, 58h: "STA Restarting; STO Stopping; both Stopping", and `otherwise` where neither is set
 unfoldable pub ends : Control → Response → Response

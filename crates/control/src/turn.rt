@@ -47,9 +47,10 @@ impl Turn {
     pub fn interrupts(self) -> bool
         ensures { λ r. ⌜ r ≡ waits self (host ∷ []) ⌝ }
     {
-        match self {
-            Turn::Host(_, _) => true,
-            _ => false,
+        if let Turn::Host(_, _) = self {
+            true
+        } else {
+            false
         }
     }
 

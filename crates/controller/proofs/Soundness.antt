@@ -1,17 +1,16 @@
 -- What a sound record obeys, condition by condition, and back. Assumes nothing.
-use mathlib.Core.Bool.{Bool, true, false, true≢false}
-use mathlib.Core.List.{List, [], _∷_}
-use mathlib.Core.Path.{_≡_, refl, sym, _∙_, subst}
-use Prim.Native.Nat.{ℕ, _≤_, _<_}
+use mathlib.Core.Bool.{Bool, true, false}
+use mathlib.Core.Path.{_≡_, refl, sym, _∙_}
+use Prim.Native.Nat.{_≤_, _<_}
 use native.Mathlib.Omega.{arith}
 use borrow.Author.Tests.{leb-true, ltb-true, eqb-true, le-leb}
 use lib.Dec.{leb, ltb, eqb}
-use Rattle.notation.specs.Choice.{if_then_else_, _and_, among}
-use Rattle.notation.proofs.Cases.{if-true, if-false, and-true, and-left, and-right}
 use Rattle.control.specs.Turns.{kind, dataTurns}
-use Rattle.controller.specs.declared.record.Controller.{Controller}
 use Rattle.controller.specs.Record.{byteCount, hostSound, moveSound, sound}
 use Rattle.controller.specs.Transfers.{cursor}
+use Rattle.controller.specs.declared.record.Controller.{Controller}
+use Rattle.notation.proofs.Cases.{if-true, if-false, and-true, and-left, and-right}
+use Rattle.notation.specs.Choice.{if_then_else_, _and_, among}
 
 pub record Sound (c : Controller) : Type 0 where
   pub pointer : c .pointer ≤ 7

@@ -1,17 +1,16 @@
 -- Document 01, Registers and Refusals: a read or write of any register. The refusals come in the table's order: 1, 10, 9, 3, and then
 -- those of the register itself.
 use mathlib.Core.Bool.{Bool, false}
-use mathlib.Core.List.{List}
 use Prim.Native.Nat.{ℕ}
 use lib.Dec.{eqb, ltb}
-use Rattle.notation.specs.Choice.{if_then_else_, _and_, _or_}
-use Rattle.control.specs.Turns.{wireTurns, waits, statusOf}
 use Rattle.control.specs.Flags.{readsAs}
-use Rattle.controller.specs.declared.record.Controller.{Controller}
-use Rattle.controller.specs.Record.{interrupts, sound}
-use Rattle.controller.specs.Reply.{Outcome, refuses, accepts}
-use Rattle.controller.specs.Registers.{writePointer, readData, writeData, atPointer, writeAtPointer}
+use Rattle.control.specs.Turns.{wireTurns, waits, statusOf}
 use Rattle.controller.specs.I2ccon.{writeControl}
+use Rattle.controller.specs.Record.{interrupts, sound}
+use Rattle.controller.specs.Registers.{writePointer, readData, writeData, atPointer, writeAtPointer}
+use Rattle.controller.specs.Reply.{Outcome, refuses, accepts}
+use Rattle.controller.specs.declared.record.Controller.{Controller}
+use Rattle.notation.specs.Choice.{if_then_else_, _and_, _or_}
 
 -- refusal 3: "wire turn: .. any I2CDAT read"
 unfoldable pub barsRead : Controller → ℕ → Bool

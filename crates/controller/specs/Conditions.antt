@@ -1,21 +1,20 @@
 -- Document 01, Events 1 to 5 and 8 to 13: bus conditions and address bytes. What is not expected is refused 8.
 use mathlib.Core.Bool.{Bool, false}
-use mathlib.Core.List.{List, [], _∷_}
+use mathlib.Core.List.{[], _∷_}
 use Prim.Native.Nat.{ℕ}
-use lib.Dec.{eqb, ltb}
-use Rattle.notation.specs.Choice.{if_then_else_, _and_, _or_}
-use Rattle.address.specs.declared.AddressByte.{AddressByte}
-use Rattle.address.specs.declared.Direction.the-variants.{Write, Read}
-use Rattle.address.specs.declared.Match.{Match}
-use Rattle.address.specs.declared.Match.the-variants.{Own, General, Nothing}
+use lib.Dec.{ltb}
 use Rattle.address.specs.Matching.{matchOf}
-use Rattle.control.specs.declared.flags.Control.{Control}
-use Rattle.control.specs.declared.turn.Turn.the-variants.{Free, Busy, Listen}
-use Rattle.control.specs.declared.turn.Edge.the-variants.{Stop, Start}
+use Rattle.address.specs.declared.Direction.the-variants.{Write, Read}
+use Rattle.address.specs.declared.Match.the-variants.{Own, General, Nothing}
+use Rattle.address.specs.declared.Match.{Match}
 use Rattle.control.specs.Turns.{off, host, free, busy, listen, address, send, receive, slaveReceive, stopping, restarting, wireTurns, waits}
-use Rattle.controller.specs.declared.record.Controller.{Controller}
+use Rattle.control.specs.declared.flags.Control.{Control}
+use Rattle.control.specs.declared.turn.Edge.the-variants.{Stop, Start}
+use Rattle.control.specs.declared.turn.Turn.the-variants.{Free, Busy, Listen}
 use Rattle.controller.specs.Record.{place, timeoutEnabled, withControl}
 use Rattle.controller.specs.Reply.{Outcome, refuses, accepts, waitsFor, interruptsAt, gives}
+use Rattle.controller.specs.declared.record.Controller.{Controller}
+use Rattle.notation.specs.Choice.{if_then_else_, _and_, _or_}
 
 -- "Free with STA", waiting to send a START
 abbrev pub wantsBus : Controller → Bool

@@ -1,15 +1,14 @@
 -- Document 01, Events: any event by its number, with the refusals in the table's order: 1, 2, 10, and then 8 by the event's own rule.
 use mathlib.Core.Bool.{Bool, false}
-use mathlib.Core.List.{List}
 use Prim.Native.Nat.{ℕ}
 use lib.Dec.{eqb, ltb}
-use Rattle.notation.specs.Choice.{if_then_else_, _or_}
-use Rattle.controller.specs.declared.record.Controller.{Controller}
+use Rattle.controller.specs.Conditions.{ownStart, otherStart, otherStop, ownStop, addressByte, addressLost, dataLost, illegalEdge, dataHeld, clockHeld, idle}
 use Rattle.controller.specs.Record.{sound}
 use Rattle.controller.specs.Reply.{Outcome, refuses, accepts}
 use Rattle.controller.specs.Reset.{reset}
-use Rattle.controller.specs.Conditions.{ownStart, otherStart, otherStop, ownStop, addressByte, addressLost, dataLost, illegalEdge, dataHeld, clockHeld, idle}
 use Rattle.controller.specs.Transfers.{byteOut, byteIn}
+use Rattle.controller.specs.declared.record.Controller.{Controller}
+use Rattle.notation.specs.Choice.{if_then_else_, _or_}
 
 -- refusal 2: "event argument: not 0 where unused, over 1 for event 6". Events 5, 7 and 8 take any byte.
 unfoldable pub badArgument : ℕ → ℕ → Bool

@@ -1,21 +1,21 @@
 -- Document 01, Writing I2CCON. Where a write with ENSIO 1 leads is `response`, of the crate `control`.
 use mathlib.Core.Bool.{Bool, false}
-use mathlib.Core.List.{List, [], _∷_}
+use mathlib.Core.List.{[], _∷_}
 use Prim.Native.Nat.{ℕ}
 use lib.Dec.{eqb, ltb}
-use Rattle.notation.specs.Choice.{if_then_else_, _and_, _or_, among}
-use Rattle.control.specs.declared.flags.Control.{Control}
-use Rattle.control.specs.declared.turn.Turn.{Turn}
-use Rattle.control.specs.declared.turn.Turn.the-variants.{Off}
-use Rattle.control.specs.declared.writing.Response.{Response}
-use Rattle.control.specs.declared.writing.Response.the-variants.{Next, Unlisted}
-use Rattle.control.specs.Turns.{stopping, dataTurns, waits, statusOf}
 use Rattle.control.specs.Flags.{flagsOf}
+use Rattle.control.specs.Turns.{stopping, dataTurns, waits, statusOf}
 use Rattle.control.specs.Writing.{response}
-use Rattle.controller.specs.declared.record.Controller.{Controller}
+use Rattle.control.specs.declared.flags.Control.{Control}
+use Rattle.control.specs.declared.turn.Turn.the-variants.{Off}
+use Rattle.control.specs.declared.turn.Turn.{Turn}
+use Rattle.control.specs.declared.writing.Response.the-variants.{Next, Unlisted}
+use Rattle.control.specs.declared.writing.Response.{Response}
 use Rattle.controller.specs.Record.{byteCount, withHand, withMoved, withControl, withTurn}
-use Rattle.controller.specs.Reply.{Outcome, refuses}
 use Rattle.controller.specs.Registers.{wrote}
+use Rattle.controller.specs.Reply.{Outcome, refuses}
+use Rattle.controller.specs.declared.record.Controller.{Controller}
+use Rattle.notation.specs.Choice.{if_then_else_, _and_, _or_, among}
 
 -- "stores AA, ENSIO, STA, MODE. STO is stored only where it leads to Stopping"
 unfoldable pub keeps : Control → Control → Turn → Control

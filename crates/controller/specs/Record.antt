@@ -4,12 +4,12 @@ use mathlib.Core.List.{List, [], _∷_}
 use Prim.Native.Nat.{ℕ, _/_, _%_}
 use lib.Dec.{eqb, leb, ltb}
 use lib.ListN.{getD, set}
-use Rattle.notation.specs.Choice.{if_then_else_, _and_, among}
+use Rattle.control.specs.Turns.{host, dataTurns, waits, statusOf}
 use Rattle.control.specs.declared.flags.Control.{Control}
 use Rattle.control.specs.declared.turn.Turn.{Turn}
-use Rattle.control.specs.Turns.{host, dataTurns, waits, statusOf}
 use Rattle.controller.specs.declared.record.Controller.{Controller}
 use Rattle.controller.specs.declared.record.Registers.{Registers}
+use Rattle.notation.specs.Choice.{if_then_else_, _and_, among}
 
 -- "The buffer holds 68 bytes, numbered 0 to 67": the byte at a place
 abbrev pub place : Controller → ℕ → ℕ

@@ -1,14 +1,13 @@
 -- Document 01, Registers: INDPTR, I2CDAT and the registers at the pointer. I2CCON is in I2ccon.antt.
-use mathlib.Core.Bool.{Bool, false}
-use mathlib.Core.List.{List}
+use mathlib.Core.Bool.{false}
 use Prim.Native.Nat.{ℕ, _+_, _%_}
 use lib.Dec.{eqb}
-use Rattle.notation.specs.Choice.{if_then_else_}
-use Rattle.controller.specs.declared.record.Controller.{Controller}
-use Rattle.controller.specs.declared.record.Registers.{Registers}
 use Rattle.controller.specs.Record.{place, withPlace, withHand, withPointer, withArmed, withRegisters}
 use Rattle.controller.specs.Reply.{Outcome, refuses, accepts}
 use Rattle.controller.specs.Reset.{writePreset}
+use Rattle.controller.specs.declared.record.Controller.{Controller}
+use Rattle.controller.specs.declared.record.Registers.{Registers}
+use Rattle.notation.specs.Choice.{if_then_else_}
 
 -- an accepted write that is no A5h to I2CPRESET: it disarms the software reset
 unfoldable pub wrote : Controller → Outcome

@@ -1,13 +1,13 @@
 -- What an access or event answers (document 01, The controller record, and Refusals of an access or event).
 use Prim.Native.Nat.{ℕ}
-use Rattle.control.specs.declared.turn.Turn.{Turn}
-use Rattle.control.specs.declared.turn.Turn.the-variants.{Host}
-use Rattle.control.specs.declared.turn.Edge.{Edge}
-use Rattle.control.specs.declared.turn.Edge.the-variants.{Stop}
-use Rattle.controller.specs.declared.record.Controller.{Controller}
 use Rattle.answer.specs.Number.{refusalOf, valueOf}
-use Rattle.controller.specs.declared.reply.Reply.{Reply}
+use Rattle.control.specs.declared.turn.Edge.the-variants.{Stop}
+use Rattle.control.specs.declared.turn.Edge.{Edge}
+use Rattle.control.specs.declared.turn.Turn.the-variants.{Host}
+use Rattle.control.specs.declared.turn.Turn.{Turn}
 use Rattle.controller.specs.Record.{withTurn, withHand}
+use Rattle.controller.specs.declared.record.Controller.{Controller}
+use Rattle.controller.specs.declared.reply.Reply.{Reply}
 
 -- The next record with the answer in the paper's numbers.
 pub record Outcome : Type 0 where

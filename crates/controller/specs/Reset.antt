@@ -4,12 +4,12 @@ use mathlib.Core.List.{List}
 use Prim.Native.Nat.{ℕ}
 use lib.Dec.{eqb}
 use lib.ListN.{replicate}
-use Rattle.notation.specs.Choice.{if_then_else_, _and_}
 use Rattle.control.specs.declared.turn.Turn.the-variants.{Off}
-use Rattle.controller.specs.declared.record.Controller.{Controller}
-use Rattle.controller.specs.declared.record.Registers.{Registers}
 use Rattle.controller.specs.Record.{withArmed}
 use Rattle.controller.specs.Reply.{Outcome, accepts}
+use Rattle.controller.specs.declared.record.Controller.{Controller}
+use Rattle.controller.specs.declared.record.Registers.{Registers}
+use Rattle.notation.specs.Choice.{if_then_else_, _and_}
 
 -- "I2CCOUNT 01h, I2CADR E0h, 02h 9Dh, 03h 86h, I2CTO FFh, I2CMODE 00h"
 abbrev pub resetRegisters : Registers

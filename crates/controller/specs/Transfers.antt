@@ -1,15 +1,15 @@
 -- Document 01, Events 6 and 7: a byte out and a byte in, in Byte mode and in Buffered mode.
 use mathlib.Core.Bool.{Bool, true, not}
-use mathlib.Core.List.{List, [], _∷_}
+use mathlib.Core.List.{[], _∷_}
 use Prim.Native.Nat.{ℕ, _+_, _%_}
 use lib.Dec.{eqb}
-use Rattle.notation.specs.Choice.{if_then_else_}
-use Rattle.control.specs.declared.turn.Called.{Called}
-use Rattle.control.specs.declared.turn.Called.the-variants.{Own, General}
 use Rattle.control.specs.Turns.{address, send, receive, slaveReceive, slaveSend, waits, calledOf}
-use Rattle.controller.specs.declared.record.Controller.{Controller}
+use Rattle.control.specs.declared.turn.Called.the-variants.{Own, General}
+use Rattle.control.specs.declared.turn.Called.{Called}
 use Rattle.controller.specs.Record.{place, byteCount, lastByte, withPlace, withMoved}
 use Rattle.controller.specs.Reply.{Outcome, refuses, accepts, gives}
+use Rattle.controller.specs.declared.record.Controller.{Controller}
+use Rattle.notation.specs.Choice.{if_then_else_}
 
 -- "In Byte mode events 6 and 7 move place 0 .. In Buffered mode they move place 0, then 1, and so on"
 unfoldable pub cursor : Controller → ℕ

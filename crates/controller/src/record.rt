@@ -2,7 +2,6 @@
 use control::flags::Control;
 use control::turn::Turn;
 ghost use mathlib.Core.Path.{_≡_};
-ghost use mathlib.Core.List.{[], _∷_};
 ghost use Rattle.notation.specs.Choice.{among};
 ghost use Rattle.controller.specs.Record.{givenStatuses, hostSound, moveSound, sound};
 

@@ -58,7 +58,8 @@ impl Controller {
     pub(crate) fn wait_for(self, turn: Turn, value: u8) -> Reply
         ensures { λ r. ⌜ outcomeOf r ≡ waitsFor self turn value ⌝ }
     {
-        self.turned(turn).accept(value)
+        let waiting = self.turned(turn);
+        waiting.accept(value)
     }
 
     // Accepted with a status: Host's turn, and the hand place back at 0.
@@ -66,7 +67,8 @@ impl Controller {
         ensures { λ r. ⌜ outcomeOf r ≡ interruptsAt self status edge value ⌝ }
     {
         self.hand = 0;
-        self.turned(Turn::Host(status, edge)).accept(value)
+        let interrupted = self.turned(Turn::Host(status, edge));
+        interrupted.accept(value)
     }
 
     // The same for every status but A0h.

@@ -65,7 +65,7 @@ impl Controller {
         let buffer = self.buffer;
         let byte = buffer[at];
         let last = self.is_last();
-        self.moved += 1;
+        self.moved = self.moved + 1;
         let refused = nack == 1;
         if refused {
             return self.give(broken, byte);

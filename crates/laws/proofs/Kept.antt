@@ -1,28 +1,21 @@
 -- When an outcome's record is sound: by the ends that every rule has.
 -- Assumes nothing.
-use mathlib.Core.Bool.{Bool, true, false, not, true≢false, false≢true}
-use mathlib.Core.List.{List, [], _∷_}
-use mathlib.Core.Path.{_≡_, refl, sym, ap, _∙_}
-use Prim.Native.Nat.{ℕ, _≤_, _<_, _+_, _%_}
-use native.Mathlib.Omega.{arith}
-use borrow.Author.Tests.{leb-true, leb-false, ltb-true, ltb-false, eqb-true, eqb-false, le-leb, lt-ltb, ne-eqb}
-use lib.Dec.{T, eqb, leb, ltb, lit≤}
-use Rattle.notation.specs.Choice.{if_then_else_, _and_, _or_, among}
-use Rattle.notation.proofs.Cases.{if-true, if-false, and-true, and-left, and-right, split}
-use Rattle.notation.proofs.Among.{has, among-has}
-use Rattle.address.specs.declared.Direction.the-variants.{Write, Read}
-use Rattle.address.specs.declared.Match.{Match}
-use Rattle.address.specs.declared.Match.the-variants.{Own, General, Nothing}
-use Rattle.control.specs.declared.flags.Control.{Control}
-use Rattle.control.specs.declared.turn.Turn.{Turn}
-use Rattle.control.specs.declared.turn.Turn.the-variants as turn
+use mathlib.Core.Bool.{Bool, true, false, not}
+use mathlib.Core.List.{[], _∷_}
+use mathlib.Core.Path.{_≡_, refl, _∙_}
+use Prim.Native.Nat.{ℕ, _≤_}
+use lib.Dec.{T, lit≤}
+use Rattle.control.specs.Turns.{host, dataTurns, kind, statusOf}
 use Rattle.control.specs.declared.turn.Edge.{Edge}
-use Rattle.control.specs.Turns.{host, wireTurns, dataTurns, kind, statusOf}
-use Rattle.controller.specs.declared.record.Controller.{Controller}
-use Rattle.controller.specs.Record.{byteCount, givenStatuses, hostSound, moveSound, sound, withTurn, withHand, withMoved}
+use Rattle.control.specs.declared.turn.Turn.the-variants as turn
+use Rattle.control.specs.declared.turn.Turn.{Turn}
+use Rattle.controller.proofs.Soundness.{parts, whole}
+use Rattle.controller.specs.Record.{givenStatuses, hostSound, moveSound, sound, withTurn, withHand}
 use Rattle.controller.specs.Reply.{Outcome, refuses, accepts, waitsFor, interruptsAt}
-use Rattle.controller.specs.Reset.{resetWith, writePreset}
-use Rattle.controller.proofs.Soundness.{Sound, parts, whole}
+use Rattle.controller.specs.declared.record.Controller.{Controller}
+use Rattle.notation.proofs.Among.{has, among-has}
+use Rattle.notation.proofs.Cases.{if-true, if-false, split}
+use Rattle.notation.specs.Choice.{if_then_else_, among}
 
 -- the outcome's record is sound
 pub record Kept (o : Outcome) : Type 0 where

@@ -4,31 +4,30 @@ use mathlib.Core.List.{List, [], _∷_}
 use mathlib.Core.Path.{_≡_, refl, sym, _∙_}
 use Prim.Native.Nat.{ℕ, _≤_, _+_, _%_}
 use native.Mathlib.Omega.{arith}
-use borrow.Author.Tests.{eqb-false, ltb-false, eq-eqb, le-leb, lt-ltb}
-use lib.Dec.{T, eqb, leb, ltb, lit≤}
-use Rattle.notation.specs.Choice.{if_then_else_, _and_, _or_, among}
-use Rattle.notation.proofs.Cases.{if-true, if-false, and-true, and-on, and-no-left, and-no-right, or-false, or-left-off, or-right-off, split}
-use Rattle.notation.proofs.Among.{among-has, without}
-use Rattle.control.specs.declared.flags.Control.{Control}
-use Rattle.control.specs.declared.turn.Turn.{Turn}
-use Rattle.control.specs.declared.turn.Turn.the-variants as turn
-use Rattle.control.specs.declared.turn.Edge.{Edge}
-use Rattle.control.specs.declared.turn.Edge.the-variants.{Stop, Start}
-use Rattle.control.specs.declared.writing.Response.{Response}
-use Rattle.control.specs.declared.writing.Response.the-variants.{Next, Unlisted}
-use Rattle.control.specs.Turns.{off, host, wireTurns, dataTurns, kind, statusOf, edgeOf}
+use borrow.Author.Tests.{eqb-false, ltb-false, le-leb, lt-ltb}
+use lib.Dec.{eqb, leb, ltb, lit≤}
 use Rattle.control.specs.Flags.{flagsOf}
+use Rattle.control.specs.Turns.{off, host, wireTurns, dataTurns, kind, statusOf, edgeOf}
 use Rattle.control.specs.Writing.{ends as endsAt, afterEdge, atStatus, response}
+use Rattle.control.specs.declared.flags.Control.{Control}
+use Rattle.control.specs.declared.turn.Edge.the-variants.{Stop, Start}
+use Rattle.control.specs.declared.turn.Edge.{Edge}
+use Rattle.control.specs.declared.turn.Turn.the-variants as turn
+use Rattle.control.specs.declared.turn.Turn.{Turn}
+use Rattle.control.specs.declared.writing.Response.the-variants.{Next, Unlisted}
+use Rattle.control.specs.declared.writing.Response.{Response}
+use Rattle.controller.proofs.Soundness.{parts, whole}
+use Rattle.controller.specs.Accesses.{barsWrite, readSound, writeSound}
+use Rattle.controller.specs.I2ccon.{keeps, controlled, badCount, enabled, withoutStart, writeFlags, writeControl}
+use Rattle.controller.specs.Record.{place, byteCount, hostSound, moveSound, sound, withPlace, withHand, withPointer, withArmed, withRegisters}
+use Rattle.controller.specs.Registers.{wrote, writePointer, readData, writeData, stored, writeAtPointer}
+use Rattle.controller.specs.Reset.{reset, resetWith, completesReset, writePreset}
 use Rattle.controller.specs.declared.record.Controller.{Controller}
 use Rattle.controller.specs.declared.record.Registers.{Registers}
-use Rattle.controller.specs.Record.{place, byteCount, hostSound, moveSound, sound, withPlace, withHand, withPointer, withArmed, withRegisters}
-use Rattle.controller.specs.Reply.{Outcome, refuses, accepts}
-use Rattle.controller.specs.Reset.{reset, resetWith, completesReset, writePreset}
-use Rattle.controller.specs.Registers.{wrote, writePointer, readData, writeData, stored, writeAtPointer}
-use Rattle.controller.specs.I2ccon.{keeps, controlled, badCount, enabled, withoutStart, writeFlags, writeControl}
-use Rattle.controller.specs.Accesses.{barsWrite, readSound, writeSound}
-use Rattle.controller.proofs.Soundness.{Sound, parts, whole}
-use Rattle.laws.proofs.Kept.{Kept, Ranges, ranges, Quiet, quiet-sound, refused, accepted, either, off-quiet}
+use Rattle.notation.proofs.Among.{among-has, without}
+use Rattle.notation.proofs.Cases.{if-false, and-true, and-on, and-no-left, and-no-right, or-false, or-left-off, or-right-off, split}
+use Rattle.notation.specs.Choice.{if_then_else_, _and_, _or_, among}
+use Rattle.laws.proofs.Kept.{Kept, ranges, quiet-sound, refused, accepted, either, off-quiet}
 
 -- the reset record, whatever the buffer holds
 pub reset-sound : (buffer : List ℕ) → sound (resetWith buffer) ≡ true

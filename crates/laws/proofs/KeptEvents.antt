@@ -1,27 +1,26 @@
 -- Events 1 to 13 take a sound record to a sound one. Assumes nothing.
 use mathlib.Core.Bool.{Bool, true, false, true≢false}
-use mathlib.Core.List.{List, [], _∷_}
-use mathlib.Core.Path.{_≡_, refl, sym, ap, _∙_}
-use Prim.Native.Nat.{ℕ, _≤_, _<_, _+_, _%_}
+use mathlib.Core.List.{[], _∷_}
+use mathlib.Core.Path.{_≡_, sym, _∙_}
+use Prim.Native.Nat.{ℕ, _+_, _%_}
 use native.Mathlib.Omega.{arith}
-use borrow.Author.Tests.{leb-true, ltb-true, eqb-true, eqb-false, ltb-false, le-leb, lt-ltb}
-use lib.Dec.{T, eqb, leb, ltb, lit≤}
-use Rattle.notation.specs.Choice.{if_then_else_, _and_, _or_, among}
-use Rattle.notation.proofs.Cases.{if-true, if-false, and-true, and-left, and-right, and-on, split}
-use Rattle.notation.proofs.Among.{has, within}
+use borrow.Author.Tests.{ltb-true, eqb-false, lt-ltb}
+use lib.Dec.{T, eqb, leb, ltb}
 use Rattle.address.specs.declared.Direction.the-variants.{Write, Read}
-use Rattle.address.specs.declared.Match.{Match}
 use Rattle.address.specs.declared.Match.the-variants.{Own, General, Nothing}
-use Rattle.control.specs.declared.turn.Called.{Called}
-use Rattle.control.specs.declared.turn.Called.the-variants as called
+use Rattle.address.specs.declared.Match.{Match}
 use Rattle.control.specs.Turns.{send, receive, slaveReceive, slaveSend, dataTurns, kind, calledOf}
-use Rattle.controller.specs.declared.record.Controller.{Controller}
-use Rattle.controller.specs.Record.{place, byteCount, givenStatuses, hostSound, moveSound, sound, withMoved, withControl}
-use Rattle.controller.specs.Reply.{Outcome, refuses, accepts, waitsFor, interruptsAt}
-use Rattle.controller.specs.Conditions.{withoutStop, ownStart, otherStart, otherStop, ownStop, addressed, addressByte, outbid, addressLost, dataLost, illegalEdge, dataHeld, clockHeld, idle}
-use Rattle.controller.specs.Transfers.{isLast, counted, dataOut, addressStatus, byteOut, acknowledgesLast, received, dataIn, slaveIn, byteIn}
-use Rattle.controller.specs.Events.{eventSound}
+use Rattle.control.specs.declared.turn.Called.the-variants as called
+use Rattle.control.specs.declared.turn.Called.{Called}
 use Rattle.controller.proofs.Soundness.{parts, whole, moving}
+use Rattle.controller.specs.Conditions.{withoutStop, ownStart, otherStart, otherStop, ownStop, addressed, addressByte, outbid, addressLost, dataLost, illegalEdge, dataHeld, clockHeld, idle}
+use Rattle.controller.specs.Events.{eventSound}
+use Rattle.controller.specs.Record.{place, byteCount, givenStatuses, moveSound, sound, withControl}
+use Rattle.controller.specs.Transfers.{isLast, counted, dataOut, addressStatus, byteOut, acknowledgesLast, received, dataIn, slaveIn, byteIn}
+use Rattle.controller.specs.declared.record.Controller.{Controller}
+use Rattle.notation.proofs.Among.{has, within}
+use Rattle.notation.proofs.Cases.{if-true, and-true, and-left, and-right, split}
+use Rattle.notation.specs.Choice.{if_then_else_, _and_, among}
 use Rattle.laws.proofs.Kept.{Kept, Ranges, ranges, accepted, interrupted, refused, either, ends}
 
 own-start : (c : Controller) → sound c ≡ true → Kept (ownStart c)

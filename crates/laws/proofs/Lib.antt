@@ -1,4 +1,5 @@
 -- Laws of the controller that a reader will ask for.
+pub mod Addresses
 pub mod Refusals
 pub mod Kept
 pub mod KeptEvents

@@ -1,28 +1,27 @@
 -- "The value returned is 0 and the whole record stays": a refused access or event changes nothing. Assumes nothing.
 use mathlib.Core.Bool.{Bool, true, false}
-use mathlib.Core.List.{List}
 use mathlib.Core.Path.{_≡_, refl}
 use Prim.Native.Nat.{ℕ}
-use Rattle.notation.specs.Choice.{if_then_else_}
 use Rattle.address.specs.declared.Direction.the-variants.{Write, Read}
-use Rattle.address.specs.declared.Match.{Match}
 use Rattle.address.specs.declared.Match.the-variants.{Own, General, Nothing}
+use Rattle.address.specs.declared.Match.{Match}
 use Rattle.control.specs.declared.flags.Control.{Control}
-use Rattle.control.specs.declared.turn.Turn.{Turn}
-use Rattle.control.specs.declared.turn.Edge.{Edge}
-use Rattle.control.specs.declared.turn.Called.{Called}
 use Rattle.control.specs.declared.turn.Called.the-variants as called
-use Rattle.control.specs.declared.writing.Response.{Response}
+use Rattle.control.specs.declared.turn.Called.{Called}
+use Rattle.control.specs.declared.turn.Edge.{Edge}
+use Rattle.control.specs.declared.turn.Turn.{Turn}
 use Rattle.control.specs.declared.writing.Response.the-variants.{Next, Unlisted}
-use Rattle.controller.specs.declared.record.Controller.{Controller}
-use Rattle.controller.specs.Reply.{Outcome, refuses, accepts, waitsFor, interruptsAt}
-use Rattle.controller.specs.Reset.{writePreset}
-use Rattle.controller.specs.Registers.{wrote, writePointer, readData, writeData, writeAtPointer}
-use Rattle.controller.specs.I2ccon.{controlled, enabled, writeFlags, writeControl}
+use Rattle.control.specs.declared.writing.Response.{Response}
 use Rattle.controller.specs.Accesses.{readSound, readOf, writeSound, writeOf}
 use Rattle.controller.specs.Conditions.{ownStart, otherStart, otherStop, ownStop, addressed, addressByte, outbid, addressLost, dataLost, illegalEdge, dataHeld, clockHeld, idle}
-use Rattle.controller.specs.Transfers.{dataOut, byteOut, dataIn, slaveIn, byteIn}
 use Rattle.controller.specs.Events.{eventSound, eventOf}
+use Rattle.controller.specs.I2ccon.{controlled, enabled, writeFlags, writeControl}
+use Rattle.controller.specs.Registers.{wrote, writePointer, readData, writeData, writeAtPointer}
+use Rattle.controller.specs.Reply.{Outcome, refuses, accepts, waitsFor, interruptsAt}
+use Rattle.controller.specs.Reset.{writePreset}
+use Rattle.controller.specs.Transfers.{dataOut, byteOut, dataIn, slaveIn, byteIn}
+use Rattle.controller.specs.declared.record.Controller.{Controller}
+use Rattle.notation.specs.Choice.{if_then_else_}
 
 -- an outcome that, where it refuses, keeps the record and has the value 0
 pub record Stays (c : Controller) (o : Outcome) : Type 0 where

@@ -1,17 +1,16 @@
 -- Every access and event, accepted or refused, takes a sound record to a sound one, and the reset pin makes any record sound.
 -- Assumes nothing.
-use mathlib.Core.Bool.{Bool, true}
-use mathlib.Core.List.{List}
+use mathlib.Core.Bool.{true}
 use mathlib.Core.Path.{_≡_}
 use Prim.Native.Nat.{ℕ}
 use lib.ListN.{replicate}
-use Rattle.notation.specs.Choice.{if_then_else_, _or_, among}
-use Rattle.controller.specs.declared.record.Controller.{Controller}
-use Rattle.controller.specs.Record.{sound}
-use Rattle.controller.specs.Reply.{Outcome, accepts}
-use Rattle.controller.specs.Reset.{fresh}
 use Rattle.controller.specs.Accesses.{readOf, writeOf}
 use Rattle.controller.specs.Events.{badArgument, eventOf}
+use Rattle.controller.specs.Record.{sound}
+use Rattle.controller.specs.Reply.{accepts}
+use Rattle.controller.specs.Reset.{fresh}
+use Rattle.controller.specs.declared.record.Controller.{Controller}
+use Rattle.notation.specs.Choice.{if_then_else_, _or_}
 use Rattle.laws.proofs.Kept.{Kept, refused, accepted, either}
 use Rattle.laws.proofs.KeptAccesses.{reset-sound, read-kept, write-kept}
 use Rattle.laws.proofs.KeptEvents.{event-kept}

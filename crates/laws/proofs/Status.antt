@@ -1,22 +1,21 @@
 -- "Host (exactly while SI is 1 ..)" and "Status is F8h exactly when SI is 0", as the registers show it. Assumes nothing.
 use mathlib.Core.Bool.{Bool, true, false, not, true≢false}
-use mathlib.Core.List.{List, [], _∷_}
+use mathlib.Core.List.{[], _∷_}
 use mathlib.Core.Path.{_≡_, refl, sym, ap, _∙_}
 use Prim.Native.Nat.{ℕ, _+_, _/_, _%_}
 use borrow.Author.Tests.{eqb-true, eq-eqb}
 use lib.Dec.{T, eqb}
-use Rattle.notation.specs.Choice.{if_then_else_, _and_, _or_, among}
-use Rattle.notation.proofs.Cases.{if-true, if-false, and-no-right}
-use Rattle.notation.proofs.Among.{same, has, among-has}
-use Rattle.control.specs.declared.flags.Control.{Control}
-use Rattle.control.specs.Turns.{host, wireTurns, kind, statusOf}
-use Rattle.control.specs.Flags.{weighs, readsAs}
 use Rattle.control.proofs.Turning.{status-idle}
-use Rattle.controller.specs.declared.record.Controller.{Controller}
-use Rattle.controller.specs.Record.{interrupts, givenStatuses, hostSound, sound}
-use Rattle.controller.specs.Reply.{Outcome, accepts}
-use Rattle.controller.specs.Accesses.{closedAt, barsRead, readSound, readOf}
+use Rattle.control.specs.Flags.{weighs, readsAs}
+use Rattle.control.specs.Turns.{host, wireTurns, kind, statusOf}
 use Rattle.controller.proofs.Soundness.{parts}
+use Rattle.controller.specs.Accesses.{closedAt, barsRead, readSound, readOf}
+use Rattle.controller.specs.Record.{interrupts, givenStatuses, hostSound, sound}
+use Rattle.controller.specs.Reply.{accepts}
+use Rattle.controller.specs.declared.record.Controller.{Controller}
+use Rattle.notation.proofs.Among.{same, has, among-has}
+use Rattle.notation.proofs.Cases.{if-true, and-no-right}
+use Rattle.notation.specs.Choice.{if_then_else_, _and_, among}
 
 -- a test that holds at both truth values holds at each
 abbrev always : (Bool → Bool) → Bool

@@ -1,5 +1,6 @@
-use Rattle.notation.proofs.Cases.{cases}
+-- `calls_all` is `callsAll`: what is known at each return settles the tests of the definition.
 use Rattle.address.specs.Matching.{callsAll}
+use Rattle.notation.proofs.Cases.{cases}
 use Rattle.address.proofs.calls_all.Statement.{statement}
 use Rattle.address.proofs.calls_all.Tie as tie
 

@@ -1,6 +1,7 @@
-use Rattle.notation.proofs.Cases.{cases}
-use Rattle.address.specs.Matching.{callsOwn}
+-- `calls_own` is `callsOwn`: what is known at each return settles the tests of the definition.
 use borrow.Author.Needs.{needs}
+use Rattle.address.specs.Matching.{callsOwn}
+use Rattle.notation.proofs.Cases.{cases}
 use Rattle.address.proofs.calls_own.Statement.{statement}
 use Rattle.address.proofs.calls_own.Tie as tie
 

@@ -1,6 +1,7 @@
-use Rattle.notation.proofs.Cases.{calls}
-use Rattle.address.specs.Matching.{matchOf}
+-- `match_address` is `matchOf`: what is known at each return settles the tests of the definition.
 use borrow.Author.Needs.{needs}
+use Rattle.address.specs.Matching.{matchOf}
+use Rattle.notation.proofs.Cases.{calls}
 use Rattle.address.proofs.match_address.Statement.{statement}
 use Rattle.address.proofs.match_address.Tie as tie
 

@@ -1,10 +1,11 @@
+-- `byte` is `bitOf`: what is known at each return settles the tests of the definition.
 use Prim.Native.Nat.{_≤_}
 use native.Mathlib.Omega.{arith}
-use lib.Dec.{lit≤}
-use Rattle.address.specs.declared.Direction.{Direction}
-use Rattle.address.specs.declared.Direction.the-variants.{Write, Read}
-use Rattle.address.specs.Number.{bitOf, byteOf}
 use borrow.Author.Needs.{needs}
+use lib.Dec.{lit≤}
+use Rattle.address.specs.Number.{bitOf, byteOf}
+use Rattle.address.specs.declared.Direction.the-variants.{Write, Read}
+use Rattle.address.specs.declared.Direction.{Direction}
 use Rattle.address.proofs.Address.byte.Statement.{statement}
 use Rattle.address.proofs.Address.byte.Tie as tie
 

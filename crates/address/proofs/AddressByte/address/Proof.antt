@@ -1,5 +1,6 @@
-use Rattle.notation.proofs.Cases.{cases}
+-- `address` is `addressOf`: what is known at each return settles the tests of the definition.
 use Rattle.address.specs.Number.{addressOf}
+use Rattle.notation.proofs.Cases.{cases}
 use Rattle.address.proofs.AddressByte.address.Statement.{statement}
 use Rattle.address.proofs.AddressByte.address.Tie as tie
 

@@ -1,5 +1,6 @@
-use Rattle.address.specs.Number.{bitOf}
+-- `bit` is `bitOf`: what is known at each return settles the tests of the definition.
 use borrow.Author.Needs.{needs}
+use Rattle.address.specs.Number.{bitOf}
 use Rattle.address.proofs.Direction.bit.Statement.{statement}
 use Rattle.address.proofs.Direction.bit.Tie as tie
 

@@ -1,5 +1,6 @@
-use Rattle.answer.specs.Number.{valueOf}
+-- `value` is `valueOf`: what is known at each return settles the tests of the definition.
 use borrow.Author.Needs.{needs}
+use Rattle.answer.specs.Number.{valueOf}
 use Rattle.answer.proofs.Answer.value.Statement.{statement}
 use Rattle.answer.proofs.Answer.value.Tie as tie
 

@@ -1,12 +1,9 @@
+-- `put_word` is safe and ends: what is left of its range falls with each turn.
 use Prim.Native.Nat.{_≤_, _-_}
-use native.Mathlib.Omega.{arith}
 use borrow.Author.Needs.{needs}
 use lib.ListN.{length}
 use Rattle.bench.proofs.line.put_word.Statement.{statement}
 use Rattle.bench.proofs.line.put_word.Tie as tie
-use Rattle.bench.proofs.line.put_word.Reads as reads
-use Rattle.bench.proofs.line.put_word.Lts as lts
-use Rattle.bench.proofs.line.put.Reads as put-reads
 
 abbrev Inv-loop : tie.InvT-loop
 Inv-loop line₀ at word next₀ i₀ line next i = i ≤ length word

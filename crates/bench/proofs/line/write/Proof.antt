@@ -1,6 +1,7 @@
+-- `write` is safe and ends.
 use mathlib.Core.Path.{sym}
-use lib.Seq.{length-take-le}
 use borrow.Author.Needs.{needs}
+use lib.Seq.{length-take-le}
 use Rattle.bench.proofs.line.write.Statement.{statement}
 use Rattle.bench.proofs.line.write.Tie as tie
 

@@ -1,14 +1,8 @@
-use Prim.Native.Nat.{_≤_, _-_}
-use native.Mathlib.Omega.{arith}
+-- `print_places` is safe and ends: what is left of its range falls with each turn.
+use Prim.Native.Nat.{_-_}
 use borrow.Author.Needs.{needs}
-use lib.ListN.{length}
 use Rattle.bench.proofs.state.print_places.Statement.{statement}
 use Rattle.bench.proofs.state.print_places.Tie as tie
-use Rattle.bench.proofs.state.print_places.Reads as reads
-use Rattle.bench.proofs.state.print_places.Lts as lts
-use Rattle.bench.proofs.line.put.Reads as put-reads
-use Rattle.bench.proofs.line.put_hex.Reads as put-hex-reads
-use Rattle.bench.proofs.line.write.Reads as write-reads
 
 abbrev Inv-loop : tie.InvT-loop
 Inv-loop from to buffer line₀ at₀ i₀ line at i = Unit {0}

@@ -1,7 +1,8 @@
+-- `within` is safe and ends.
 use mathlib.Core.Path.{sym}
 use native.Mathlib.Omega.{arith}
-use lib.Seq.{length-take-le}
 use borrow.Author.Needs.{needs}
+use lib.Seq.{length-take-le}
 use Rattle.bench.proofs.trace.within.Statement.{statement}
 use Rattle.bench.proofs.trace.within.Tie as tie
 

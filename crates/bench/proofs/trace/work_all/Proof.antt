@@ -1,13 +1,9 @@
-use Prim.Native.Nat.{_≤_, _-_}
-use native.Mathlib.Omega.{arith}
+-- `work_all` is safe and ends: what is left of its range falls with each turn.
+use Prim.Native.Nat.{_-_}
 use borrow.Author.Needs.{needs}
 use lib.ListN.{length}
 use Rattle.bench.proofs.trace.work_all.Statement.{statement}
 use Rattle.bench.proofs.trace.work_all.Tie as tie
-use Rattle.bench.proofs.trace.work_all.Reads as reads
-use Rattle.bench.proofs.trace.work_all.Lts as lts
-use Rattle.bench.proofs.state.print_reply.Reads as print-reply-reads
-use Rattle.bench.proofs.trace.work.Reads as work-reads
 
 abbrev Inv-loop : tie.InvT-loop
 Inv-loop trace from c₀ at₀ c at = Unit {0}

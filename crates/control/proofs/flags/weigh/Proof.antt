@@ -1,6 +1,7 @@
-use Rattle.notation.proofs.Cases.{cases}
+-- `weigh` is `weighs`: what is known at each return settles the tests of the definition.
 use borrow.Author.Needs.{needs}
 use Rattle.control.specs.Flags.{weighs}
+use Rattle.notation.proofs.Cases.{cases}
 use Rattle.control.proofs.flags.weigh.Statement.{statement}
 use Rattle.control.proofs.flags.weigh.Tie as tie
 

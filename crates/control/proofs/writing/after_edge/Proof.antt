@@ -1,5 +1,6 @@
-use Rattle.control.specs.Writing.{afterEdge}
+-- `after_edge` is `afterEdge`: what is known at each return settles the tests of the definition.
 use borrow.Author.Needs.{needs}
+use Rattle.control.specs.Writing.{afterEdge}
 use Rattle.control.proofs.writing.after_edge.Statement.{statement}
 use Rattle.control.proofs.writing.after_edge.Tie as tie
 

@@ -1,8 +1,9 @@
-use Rattle.notation.proofs.Cases.{cases}
+-- `at_status` is `atStatus`: what is known at each return settles the tests of the definition.
 use mathlib.Core.List.{[], _∷_}
-use Rattle.notation.proofs.Among.{keys-in, none-of}
-use Rattle.control.specs.Writing.{atStatus}
 use borrow.Author.Needs.{needs}
+use Rattle.control.specs.Writing.{atStatus}
+use Rattle.notation.proofs.Among.{keys-in, none-of}
+use Rattle.notation.proofs.Cases.{cases}
 use Rattle.control.proofs.writing.at_status.Statement.{statement}
 use Rattle.control.proofs.writing.at_status.Tie as tie
 

@@ -1,5 +1,6 @@
-use Rattle.notation.proofs.Cases.{cases}
+-- `end_or` is `ends`: what is known at each return settles the tests of the definition.
 use Rattle.control.specs.Writing.{ends}
+use Rattle.notation.proofs.Cases.{cases}
 use Rattle.control.proofs.writing.end_or.Statement.{statement}
 use Rattle.control.proofs.writing.end_or.Tie as tie
 

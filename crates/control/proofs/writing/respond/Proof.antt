@@ -1,11 +1,12 @@
-use Rattle.notation.specs.Choice.{among, if_then_else_}
-use mathlib.Core.Path.{_∙_}
-use Rattle.control.specs.Turns.{kind, statusOf, edgeOf}
-use Rattle.notation.proofs.Cases.{cases}
+-- `respond` is `response`: what is known at each return settles the tests of the definition.
 use mathlib.Core.List.{[], _∷_}
-use Rattle.control.proofs.Turning.{at-turn, at-turns}
-use Rattle.control.specs.Writing.{response}
+use mathlib.Core.Path.{_∙_}
 use borrow.Author.Needs.{needs}
+use Rattle.control.specs.Turns.{kind, statusOf, edgeOf}
+use Rattle.control.specs.Writing.{response}
+use Rattle.notation.proofs.Cases.{cases}
+use Rattle.notation.specs.Choice.{among, if_then_else_}
+use Rattle.control.proofs.Turning.{at-turn, at-turns}
 use Rattle.control.proofs.writing.respond.Statement.{statement}
 use Rattle.control.proofs.writing.respond.Tie as tie
 

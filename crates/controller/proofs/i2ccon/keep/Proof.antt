@@ -1,8 +1,9 @@
-use Rattle.notation.proofs.Cases.{cases}
+-- `keep` is `keeps`: what is known at each return settles the tests of the definition.
 use mathlib.Core.List.{[], _∷_}
+use borrow.Author.Needs.{needs}
 use Rattle.control.proofs.Turning.{at-turn, at-turns}
 use Rattle.controller.specs.I2ccon.{keeps}
-use borrow.Author.Needs.{needs}
+use Rattle.notation.proofs.Cases.{cases}
 use Rattle.controller.proofs.i2ccon.keep.Statement.{statement}
 use Rattle.controller.proofs.i2ccon.keep.Tie as tie
 

@@ -1,12 +1,12 @@
-use mathlib.Core.Path.{_∙_}
-use Rattle.notation.proofs.Cases.{cases}
+-- `host_is_sound` is `hostSound`: what is known at each return settles the tests of the definition.
 use mathlib.Core.List.{[], _∷_}
-use Rattle.control.proofs.Turning.{at-turns}
 use mathlib.Core.Path.{_∙_}
-use Rattle.controller.specs.Record.{hostSound}
-use Rattle.control.specs.Turns.{kind, statusOf}
-use Rattle.notation.specs.Choice.{among, if_then_else_}
 use borrow.Author.Needs.{needs}
+use Rattle.control.proofs.Turning.{at-turns}
+use Rattle.control.specs.Turns.{kind, statusOf}
+use Rattle.controller.specs.Record.{hostSound}
+use Rattle.notation.proofs.Cases.{cases}
+use Rattle.notation.specs.Choice.{among, if_then_else_}
 use Rattle.controller.proofs.record.host_is_sound.Statement.{statement}
 use Rattle.controller.proofs.record.host_is_sound.Tie as tie
 

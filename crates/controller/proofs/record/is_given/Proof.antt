@@ -1,7 +1,8 @@
-use mathlib.Core.Path.{sym}
+-- `is_given` meets its promise at each return.
 use mathlib.Core.Bool.{true}
-use Rattle.notation.proofs.Among.{keys-in, none-of}
+use mathlib.Core.Path.{sym}
 use Rattle.controller.specs.Record.{givenStatuses}
+use Rattle.notation.proofs.Among.{keys-in, none-of}
 use Rattle.controller.proofs.record.is_given.Statement.{statement}
 use Rattle.controller.proofs.record.is_given.Tie as tie
 

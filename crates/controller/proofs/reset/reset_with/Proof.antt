@@ -1,3 +1,4 @@
+-- `reset_with` is `resetWith`: what is known at each return settles the tests of the definition.
 use mathlib.Core.Path.{refl}
 use Rattle.controller.specs.Reset.{resetWith}
 use Rattle.controller.proofs.reset.reset_with.Statement.{statement}

@@ -1,5 +1,6 @@
-use Rattle.notation.proofs.Cases.{cases}
+-- `address_status` is `addressStatus`: what is known at each return settles the tests of the definition.
 use Rattle.controller.specs.Transfers.{addressStatus}
+use Rattle.notation.proofs.Cases.{cases}
 use Rattle.controller.proofs.transfer.address_status.Statement.{statement}
 use Rattle.controller.proofs.transfer.address_status.Tie as tie
 

@@ -1,5 +1,6 @@
-use Rattle.control.specs.Flags.{readsAs}
+-- `byte` is `readsAs`: what is known at each return settles the tests of the definition.
 use borrow.Author.Needs.{needs}
+use Rattle.control.specs.Flags.{readsAs}
 use Rattle.control.proofs.flags.Control.byte.Statement.{statement}
 use Rattle.control.proofs.flags.Control.byte.Tie as tie
 

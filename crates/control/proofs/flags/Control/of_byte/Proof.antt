@@ -1,5 +1,6 @@
-use Rattle.notation.proofs.Cases.{cases}
+-- `of_byte` is `flagsOf`: what is known at each return settles the tests of the definition.
 use Rattle.control.specs.Flags.{flagsOf}
+use Rattle.notation.proofs.Cases.{cases}
 use Rattle.control.proofs.flags.Control.of_byte.Statement.{statement}
 use Rattle.control.proofs.flags.Control.of_byte.Tie as tie
 

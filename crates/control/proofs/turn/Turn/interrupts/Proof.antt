@@ -1,8 +1,9 @@
-use mathlib.Core.Path.{sym, refl}
+-- `interrupts` meets its promise at each return.
 use mathlib.Core.Bool.{true, false}
 use mathlib.Core.List.{[], _∷_}
-use Rattle.control.proofs.Turning.{at-turn, at-turns}
+use mathlib.Core.Path.{sym, refl}
 use borrow.Author.Needs.{needs}
+use Rattle.control.proofs.Turning.{at-turn, at-turns}
 use Rattle.control.proofs.turn.Turn.interrupts.Statement.{statement}
 use Rattle.control.proofs.turn.Turn.interrupts.Tie as tie
 

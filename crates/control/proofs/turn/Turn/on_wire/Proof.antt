@@ -1,8 +1,9 @@
-use mathlib.Core.Path.{sym}
+-- `on_wire` meets its promise at each return.
 use mathlib.Core.Bool.{true, false}
 use mathlib.Core.List.{[], _∷_}
-use Rattle.control.proofs.Turning.{at-turns}
+use mathlib.Core.Path.{sym}
 use Rattle.control.specs.Turns.{wireTurns}
+use Rattle.control.proofs.Turning.{at-turns}
 use Rattle.control.proofs.turn.Turn.on_wire.Statement.{statement}
 use Rattle.control.proofs.turn.Turn.on_wire.Tie as tie
 

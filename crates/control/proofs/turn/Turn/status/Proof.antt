@@ -1,9 +1,10 @@
-use mathlib.Core.Path.{sym}
+-- `status` is `statusOf`: what is known at each return settles the tests of the definition.
 use mathlib.Core.Bool.{false}
 use mathlib.Core.List.{[], _∷_}
-use Rattle.control.proofs.Turning.{at-turns, status-idle}
-use Rattle.control.specs.Turns.{statusOf}
+use mathlib.Core.Path.{sym}
 use borrow.Author.Needs.{needs}
+use Rattle.control.specs.Turns.{statusOf}
+use Rattle.control.proofs.Turning.{at-turns, status-idle}
 use Rattle.control.proofs.turn.Turn.status.Statement.{statement}
 use Rattle.control.proofs.turn.Turn.status.Tie as tie
 

@@ -1,9 +1,10 @@
-use mathlib.Core.Path.{_∙_}
-use Rattle.notation.proofs.Cases.{cases}
+-- `address_lost` is `addressLost`: what is known at each return settles the tests of the definition.
 use mathlib.Core.List.{[], _∷_}
+use mathlib.Core.Path.{_∙_}
+use borrow.Author.Needs.{needs}
 use Rattle.control.proofs.Turning.{at-turn, at-turns}
 use Rattle.controller.specs.Conditions.{addressLost}
-use borrow.Author.Needs.{needs}
+use Rattle.notation.proofs.Cases.{cases}
 use Rattle.controller.proofs.record.Controller.address_lost.Statement.{statement}
 use Rattle.controller.proofs.record.Controller.address_lost.Tie as tie
 

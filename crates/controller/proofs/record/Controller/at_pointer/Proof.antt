@@ -1,7 +1,8 @@
-use Rattle.notation.proofs.Cases.{cases}
-use Rattle.notation.proofs.Among.{key-is}
+-- `at_pointer` is `atPointer`: what is known at each return settles the tests of the definition.
 use borrow.Author.Tests.{ne-eqb}
 use Rattle.controller.specs.Registers.{atPointer}
+use Rattle.notation.proofs.Among.{key-is}
+use Rattle.notation.proofs.Cases.{cases}
 use Rattle.controller.proofs.record.Controller.at_pointer.Statement.{statement}
 use Rattle.controller.proofs.record.Controller.at_pointer.Tie as tie
 

@@ -1,7 +1,8 @@
-use Rattle.notation.proofs.Cases.{cases}
+-- `bad_count` is `badCount`: what is known at each return settles the tests of the definition.
 use mathlib.Core.Path.{sym, _∙_}
-use Rattle.controller.specs.I2ccon.{badCount}
 use borrow.Author.Needs.{needs}
+use Rattle.controller.specs.I2ccon.{badCount}
+use Rattle.notation.proofs.Cases.{cases}
 use Rattle.controller.proofs.record.Controller.bad_count.Statement.{statement}
 use Rattle.controller.proofs.record.Controller.bad_count.Tie as tie
 

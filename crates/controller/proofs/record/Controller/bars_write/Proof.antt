@@ -1,7 +1,8 @@
-use Rattle.notation.proofs.Cases.{cases}
+-- `bars_write` is `barsWrite`: what is known at each return settles the tests of the definition.
 use mathlib.Core.Path.{sym, _∙_}
-use Rattle.controller.specs.Accesses.{barsWrite, closedAt}
 use borrow.Author.Needs.{needs}
+use Rattle.controller.specs.Accesses.{barsWrite, closedAt}
+use Rattle.notation.proofs.Cases.{cases}
 use Rattle.controller.proofs.record.Controller.bars_write.Statement.{statement}
 use Rattle.controller.proofs.record.Controller.bars_write.Tie as tie
 

@@ -1,13 +1,14 @@
-use mathlib.Core.Path.{_∙_, refl}
+-- `byte_in` is `byteIn`: what is known at each return settles the tests of the definition.
 use mathlib.Core.Bool.{true}
-use Rattle.controller.proofs.Soundness.{moving}
-use Rattle.control.specs.Turns.{dataTurns, kind, calledOf}
-use Rattle.notation.specs.Choice.{among, if_then_else_}
-use Rattle.notation.proofs.Cases.{cases}
 use mathlib.Core.List.{[], _∷_}
-use Rattle.control.proofs.Turning.{at-turn, at-turns}
-use Rattle.controller.specs.Transfers.{byteIn}
+use mathlib.Core.Path.{_∙_, refl}
 use borrow.Author.Needs.{needs}
+use Rattle.control.proofs.Turning.{at-turn, at-turns}
+use Rattle.control.specs.Turns.{dataTurns, kind, calledOf}
+use Rattle.controller.specs.Transfers.{byteIn}
+use Rattle.notation.proofs.Cases.{cases}
+use Rattle.notation.specs.Choice.{among, if_then_else_}
+use Rattle.controller.proofs.Soundness.{moving}
 use Rattle.controller.proofs.record.Controller.byte_in.Statement.{statement}
 use Rattle.controller.proofs.record.Controller.byte_in.Tie as tie
 

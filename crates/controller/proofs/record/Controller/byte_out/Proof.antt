@@ -1,12 +1,13 @@
-use mathlib.Core.Path.{_∙_, refl}
+-- `byte_out` is `byteOut`: what is known at each return settles the tests of the definition.
 use mathlib.Core.Bool.{true}
-use Rattle.controller.proofs.Soundness.{moving}
-use Rattle.control.specs.Turns.{dataTurns}
-use Rattle.notation.proofs.Cases.{cases}
 use mathlib.Core.List.{[], _∷_}
-use Rattle.control.proofs.Turning.{at-turn, at-turns}
-use Rattle.controller.specs.Transfers.{byteOut}
+use mathlib.Core.Path.{_∙_, refl}
 use borrow.Author.Needs.{needs}
+use Rattle.control.proofs.Turning.{at-turn, at-turns}
+use Rattle.control.specs.Turns.{dataTurns}
+use Rattle.controller.specs.Transfers.{byteOut}
+use Rattle.notation.proofs.Cases.{cases}
+use Rattle.controller.proofs.Soundness.{moving}
 use Rattle.controller.proofs.record.Controller.byte_out.Statement.{statement}
 use Rattle.controller.proofs.record.Controller.byte_out.Tie as tie
 

@@ -1,8 +1,9 @@
-use Rattle.notation.proofs.Cases.{cases}
+-- `clock_held` is `clockHeld`: what is known at each return settles the tests of the definition.
 use mathlib.Core.List.{[], _∷_}
+use borrow.Author.Needs.{needs}
 use Rattle.control.proofs.Turning.{at-turns}
 use Rattle.controller.specs.Conditions.{clockHeld}
-use borrow.Author.Needs.{needs}
+use Rattle.notation.proofs.Cases.{cases}
 use Rattle.controller.proofs.record.Controller.clock_held.Statement.{statement}
 use Rattle.controller.proofs.record.Controller.clock_held.Tie as tie
 

@@ -1,5 +1,6 @@
-use Rattle.notation.proofs.Cases.{cases}
+-- `completes_reset` is `completesReset`: what is known at each return settles the tests of the definition.
 use Rattle.controller.specs.Reset.{completesReset}
+use Rattle.notation.proofs.Cases.{cases}
 use Rattle.controller.proofs.record.Controller.completes_reset.Statement.{statement}
 use Rattle.controller.proofs.record.Controller.completes_reset.Tie as tie
 

@@ -1,6 +1,7 @@
+-- `controlled` is `controlled`: what is known at each return settles the tests of the definition.
 use mathlib.Core.Path.{_∙_}
-use Rattle.controller.specs.I2ccon.{controlled}
 use borrow.Author.Needs.{needs}
+use Rattle.controller.specs.I2ccon.{controlled}
 use Rattle.controller.proofs.record.Controller.controlled.Statement.{statement}
 use Rattle.controller.proofs.record.Controller.controlled.Tie as tie
 

@@ -1,8 +1,9 @@
-use Rattle.notation.proofs.Cases.{cases}
+-- `data_held` is `dataHeld`: what is known at each return settles the tests of the definition.
 use mathlib.Core.List.{[], _∷_}
+use borrow.Author.Needs.{needs}
 use Rattle.control.proofs.Turning.{at-turn, at-turns}
 use Rattle.controller.specs.Conditions.{dataHeld}
-use borrow.Author.Needs.{needs}
+use Rattle.notation.proofs.Cases.{cases}
 use Rattle.controller.proofs.record.Controller.data_held.Statement.{statement}
 use Rattle.controller.proofs.record.Controller.data_held.Tie as tie
 

@@ -1,7 +1,8 @@
-use Rattle.notation.proofs.Cases.{cases}
+-- `data_in` is `dataIn`: what is known at each return settles the tests of the definition.
 use mathlib.Core.Path.{sym, _∙_}
-use Rattle.controller.specs.Transfers.{dataIn}
 use borrow.Author.Needs.{needs}
+use Rattle.controller.specs.Transfers.{dataIn}
+use Rattle.notation.proofs.Cases.{cases}
 use Rattle.controller.proofs.record.Controller.data_in.Statement.{statement}
 use Rattle.controller.proofs.record.Controller.data_in.Tie as tie
 

@@ -1,9 +1,10 @@
-use Rattle.notation.proofs.Cases.{cases}
+-- `data_out` is `dataOut`: what is known at each return settles the tests of the definition.
 use mathlib.Core.Path.{sym, _∙_}
 use native.Mathlib.Omega.{arith}
-use Rattle.controller.proofs.Soundness.{cursor-below}
-use Rattle.controller.specs.Transfers.{dataOut}
 use borrow.Author.Needs.{needs}
+use Rattle.controller.specs.Transfers.{dataOut}
+use Rattle.notation.proofs.Cases.{cases}
+use Rattle.controller.proofs.Soundness.{cursor-below}
 use Rattle.controller.proofs.record.Controller.data_out.Statement.{statement}
 use Rattle.controller.proofs.record.Controller.data_out.Tie as tie
 

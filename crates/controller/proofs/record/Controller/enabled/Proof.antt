@@ -1,8 +1,8 @@
-use Rattle.notation.proofs.Cases.{cases}
+-- `enabled` is `enabled`: what is known at each return settles the tests of the definition.
 use mathlib.Core.Path.{sym, _∙_}
-use mathlib.Core.Path.{_∙_}
-use Rattle.controller.specs.I2ccon.{enabled}
 use borrow.Author.Needs.{needs}
+use Rattle.controller.specs.I2ccon.{enabled}
+use Rattle.notation.proofs.Cases.{cases}
 use Rattle.controller.proofs.record.Controller.enabled.Statement.{statement}
 use Rattle.controller.proofs.record.Controller.enabled.Tie as tie
 

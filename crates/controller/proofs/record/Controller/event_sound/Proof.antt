@@ -1,9 +1,10 @@
+-- `event_sound` is `eventSound`: what is known at each return settles the tests of the definition.
 use mathlib.Core.Path.{_∙_}
-use Rattle.notation.specs.Choice.{if_then_else_}
-use Rattle.notation.proofs.Cases.{cases}
+use borrow.Author.Needs.{needs}
 use borrow.Author.Tests.{ne-eqb}
 use Rattle.controller.specs.Events.{eventSound}
-use borrow.Author.Needs.{needs}
+use Rattle.notation.proofs.Cases.{cases}
+use Rattle.notation.specs.Choice.{if_then_else_}
 use Rattle.controller.proofs.record.Controller.event_sound.Statement.{statement}
 use Rattle.controller.proofs.record.Controller.event_sound.Tie as tie
 

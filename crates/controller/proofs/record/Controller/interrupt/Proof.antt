@@ -1,7 +1,8 @@
+-- `interrupt` is `interruptsAt`: what is known at each return settles the tests of the definition.
 use mathlib.Core.Path.{ap, _∙_}
-use Rattle.controller.specs.declared.record.Controller.{Controller}
-use Rattle.controller.specs.Reply.{accepts, interruptsAt}
 use borrow.Author.Needs.{needs}
+use Rattle.controller.specs.Reply.{accepts, interruptsAt}
+use Rattle.controller.specs.declared.record.Controller.{Controller}
 use Rattle.controller.proofs.record.Controller.interrupt.Statement.{statement}
 use Rattle.controller.proofs.record.Controller.interrupt.Tie as tie
 

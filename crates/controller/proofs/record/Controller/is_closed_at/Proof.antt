@@ -1,5 +1,6 @@
-use Rattle.notation.proofs.Cases.{cases}
+-- `is_closed_at` is `closedAt`: what is known at each return settles the tests of the definition.
 use Rattle.controller.specs.Accesses.{closedAt}
+use Rattle.notation.proofs.Cases.{cases}
 use Rattle.controller.proofs.record.Controller.is_closed_at.Statement.{statement}
 use Rattle.controller.proofs.record.Controller.is_closed_at.Tie as tie
 

@@ -1,7 +1,8 @@
-use Rattle.notation.proofs.Cases.{cases}
+-- `is_sound` is `sound`: what is known at each return settles the tests of the definition.
 use mathlib.Core.Path.{sym, _∙_}
-use Rattle.controller.specs.Record.{sound}
 use borrow.Author.Needs.{needs}
+use Rattle.controller.specs.Record.{sound}
+use Rattle.notation.proofs.Cases.{cases}
 use Rattle.controller.proofs.record.Controller.is_sound.Statement.{statement}
 use Rattle.controller.proofs.record.Controller.is_sound.Tie as tie
 

@@ -1,7 +1,8 @@
-use Rattle.notation.proofs.Cases.{cases}
+-- `move_is_sound` is `moveSound`: what is known at each return settles the tests of the definition.
 use mathlib.Core.Path.{sym, _∙_}
-use Rattle.controller.specs.Record.{moveSound}
 use borrow.Author.Needs.{needs}
+use Rattle.controller.specs.Record.{moveSound}
+use Rattle.notation.proofs.Cases.{cases}
 use Rattle.controller.proofs.record.Controller.move_is_sound.Statement.{statement}
 use Rattle.controller.proofs.record.Controller.move_is_sound.Tie as tie
 

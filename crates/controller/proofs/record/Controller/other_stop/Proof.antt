@@ -1,8 +1,9 @@
-use Rattle.notation.proofs.Cases.{cases}
+-- `other_stop` is `otherStop`: what is known at each return settles the tests of the definition.
 use mathlib.Core.List.{[], _∷_}
+use borrow.Author.Needs.{needs}
 use Rattle.control.proofs.Turning.{at-turn, at-turns}
 use Rattle.controller.specs.Conditions.{otherStop}
-use borrow.Author.Needs.{needs}
+use Rattle.notation.proofs.Cases.{cases}
 use Rattle.controller.proofs.record.Controller.other_stop.Statement.{statement}
 use Rattle.controller.proofs.record.Controller.other_stop.Tie as tie
 

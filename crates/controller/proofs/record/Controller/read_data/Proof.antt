@@ -1,6 +1,7 @@
-use Rattle.notation.proofs.Cases.{cases}
-use Rattle.controller.specs.Registers.{readData}
+-- `read_data` is `readData`: what is known at each return settles the tests of the definition.
 use borrow.Author.Needs.{needs}
+use Rattle.controller.specs.Registers.{readData}
+use Rattle.notation.proofs.Cases.{cases}
 use Rattle.controller.proofs.record.Controller.read_data.Statement.{statement}
 use Rattle.controller.proofs.record.Controller.read_data.Tie as tie
 

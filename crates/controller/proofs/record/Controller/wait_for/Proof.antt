@@ -1,7 +1,8 @@
+-- `wait_for` is `waitsFor`: what is known at each return settles the tests of the definition.
 use mathlib.Core.Path.{ap, _∙_}
-use Rattle.controller.specs.declared.record.Controller.{Controller}
-use Rattle.controller.specs.Reply.{accepts, waitsFor}
 use borrow.Author.Needs.{needs}
+use Rattle.controller.specs.Reply.{accepts, waitsFor}
+use Rattle.controller.specs.declared.record.Controller.{Controller}
 use Rattle.controller.proofs.record.Controller.wait_for.Statement.{statement}
 use Rattle.controller.proofs.record.Controller.wait_for.Tie as tie
 

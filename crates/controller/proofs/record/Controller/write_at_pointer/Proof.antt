@@ -1,7 +1,8 @@
-use Rattle.notation.proofs.Cases.{cases}
+-- `write_at_pointer` is `writeAtPointer`: what is known at each return settles the tests of the definition.
 use mathlib.Core.Path.{_∙_}
-use Rattle.controller.specs.Registers.{writeAtPointer}
 use borrow.Author.Needs.{needs}
+use Rattle.controller.specs.Registers.{writeAtPointer}
+use Rattle.notation.proofs.Cases.{cases}
 use Rattle.controller.proofs.record.Controller.write_at_pointer.Statement.{statement}
 use Rattle.controller.proofs.record.Controller.write_at_pointer.Tie as tie
 

@@ -1,6 +1,7 @@
+-- `write_control` is `writeControl`: what is known at each return settles the tests of the definition.
 use mathlib.Core.Path.{_∙_}
-use Rattle.controller.specs.I2ccon.{writeControl}
 use borrow.Author.Needs.{needs}
+use Rattle.controller.specs.I2ccon.{writeControl}
 use Rattle.controller.proofs.record.Controller.write_control.Statement.{statement}
 use Rattle.controller.proofs.record.Controller.write_control.Tie as tie
 

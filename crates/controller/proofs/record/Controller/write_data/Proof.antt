@@ -1,6 +1,7 @@
-use Rattle.notation.proofs.Cases.{cases}
-use Rattle.controller.specs.Registers.{writeData}
+-- `write_data` is `writeData`: what is known at each return settles the tests of the definition.
 use borrow.Author.Needs.{needs}
+use Rattle.controller.specs.Registers.{writeData}
+use Rattle.notation.proofs.Cases.{cases}
 use Rattle.controller.proofs.record.Controller.write_data.Statement.{statement}
 use Rattle.controller.proofs.record.Controller.write_data.Tie as tie
 

@@ -1,9 +1,10 @@
-use Rattle.notation.proofs.Cases.{cases}
+-- `write_flags` is `writeFlags`: what is known at each return settles the tests of the definition.
 use mathlib.Core.List.{[], _∷_}
 use mathlib.Core.Path.{_∙_}
-use Rattle.notation.proofs.Among.{keys-in, none-of}
-use Rattle.controller.specs.I2ccon.{writeFlags}
 use borrow.Author.Needs.{needs}
+use Rattle.controller.specs.I2ccon.{writeFlags}
+use Rattle.notation.proofs.Among.{keys-in, none-of}
+use Rattle.notation.proofs.Cases.{cases}
 use Rattle.controller.proofs.record.Controller.write_flags.Statement.{statement}
 use Rattle.controller.proofs.record.Controller.write_flags.Tie as tie
 

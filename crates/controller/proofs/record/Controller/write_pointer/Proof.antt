@@ -1,5 +1,6 @@
-use Rattle.controller.specs.Registers.{writePointer}
+-- `write_pointer` is `writePointer`: what is known at each return settles the tests of the definition.
 use borrow.Author.Needs.{needs}
+use Rattle.controller.specs.Registers.{writePointer}
 use Rattle.controller.proofs.record.Controller.write_pointer.Statement.{statement}
 use Rattle.controller.proofs.record.Controller.write_pointer.Tie as tie
 

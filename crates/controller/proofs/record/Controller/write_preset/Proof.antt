@@ -1,8 +1,8 @@
-use Rattle.notation.proofs.Cases.{cases}
+-- `write_preset` is `writePreset`: what is known at each return settles the tests of the definition.
 use mathlib.Core.Path.{sym, _∙_}
-use mathlib.Core.Path.{_∙_}
-use Rattle.controller.specs.Reset.{writePreset}
 use borrow.Author.Needs.{needs}
+use Rattle.controller.specs.Reset.{writePreset}
+use Rattle.notation.proofs.Cases.{cases}
 use Rattle.controller.proofs.record.Controller.write_preset.Statement.{statement}
 use Rattle.controller.proofs.record.Controller.write_preset.Tie as tie
 

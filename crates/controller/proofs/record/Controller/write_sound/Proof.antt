@@ -1,10 +1,11 @@
-use Rattle.notation.proofs.Cases.{cases}
+-- `write_sound` is `writeSound`: what is known at each return settles the tests of the definition.
 use mathlib.Core.Path.{sym, _∙_}
-use borrow.Author.Tests.{ne-eqb}
-use Rattle.notation.proofs.Among.{key-is}
-use Rattle.controller.proofs.Soundness.{parts}
-use Rattle.controller.specs.Accesses.{writeSound}
 use borrow.Author.Needs.{needs}
+use borrow.Author.Tests.{ne-eqb}
+use Rattle.controller.specs.Accesses.{writeSound}
+use Rattle.notation.proofs.Among.{key-is}
+use Rattle.notation.proofs.Cases.{cases}
+use Rattle.controller.proofs.Soundness.{parts}
 use Rattle.controller.proofs.record.Controller.write_sound.Statement.{statement}
 use Rattle.controller.proofs.record.Controller.write_sound.Tie as tie
 

@@ -1,5 +1,6 @@
-use Rattle.controller.specs.Registers.{wrote}
+-- `wrote` is `wrote`: what is known at each return settles the tests of the definition.
 use borrow.Author.Needs.{needs}
+use Rattle.controller.specs.Registers.{wrote}
 use Rattle.controller.proofs.record.Controller.wrote.Statement.{statement}
 use Rattle.controller.proofs.record.Controller.wrote.Tie as tie
 

@@ -1,7 +1,8 @@
-use Rattle.notation.proofs.Cases.{cases}
-use Rattle.notation.proofs.Among.{key-is}
+-- `stored` is `stored`: what is known at each return settles the tests of the definition.
 use borrow.Author.Tests.{ne-eqb}
 use Rattle.controller.specs.Registers.{stored}
+use Rattle.notation.proofs.Among.{key-is}
+use Rattle.notation.proofs.Cases.{cases}
 use Rattle.controller.proofs.record.Registers.stored.Statement.{statement}
 use Rattle.controller.proofs.record.Registers.stored.Tie as tie
 
