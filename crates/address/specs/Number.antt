@@ -2,10 +2,10 @@
 -- (document 01, The controller record)
 use Prim.Native.Nat.{ℕ, _+_, _*_, _/_, _%_}
 use lib.Dec.{eqb}
-use Rattle.address.specs.declared.Address.{Address}
-use Rattle.address.specs.declared.AddressByte.{AddressByte}
-use Rattle.address.specs.declared.Direction.the-variants.{Write, Read}
-use Rattle.address.specs.declared.Direction.{Direction}
+use Rattle.address.specs.declared.number.Address.{Address}
+use Rattle.address.specs.declared.number.AddressByte.{AddressByte}
+use Rattle.address.specs.declared.number.Direction.the-variants.{Write, Read}
+use Rattle.address.specs.declared.number.Direction.{Direction}
 use Rattle.notation.specs.Choice.{if_then_else_}
 
 -- R, the lowest bit

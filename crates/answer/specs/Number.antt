@@ -2,13 +2,13 @@
 use Prim.Native.Nat.{ℕ}
 use Rattle.answer.specs.declared.Answer.the-variants.{Accepted, Refused}
 use Rattle.answer.specs.declared.Answer.{Answer}
-use Rattle.answer.specs.declared.Refusal.the-variants.{NoSuchPlace, BadArgument, OnTheWire, Locked, Unlisted, BadCount, BufferEnd, Unexpected, Inaccessible, Unsound}
+use Rattle.answer.specs.declared.Refusal.the-variants.{OutOfRange, BadArgument, OnTheWire, Locked, Unlisted, BadCount, BufferEnd, Unexpected, Inaccessible, Unsound}
 use Rattle.answer.specs.declared.Refusal.{Refusal}
 
 -- "No": 1 register over 3, or event not 1..14; 2 event argument; 3 wire turn; 4 I2CCON write at 00h, 70h or 78h; 5 not listed;
 -- 6 BC not 1..68; 7 hand place at 68; 8 event not expected now; 9 register 2 at 07h or 05h; 10 the record isn't sound
 abbrev pub numberOf : Refusal → ℕ
-numberOf NoSuchPlace = 1
+numberOf OutOfRange = 1
 numberOf BadArgument = 2
 numberOf OnTheWire = 3
 numberOf Locked = 4

@@ -4,7 +4,7 @@ ghost use Rattle.answer.specs.Number.{numberOf, refusalOf, valueOf};
 
 // Why an access or event is refused.
 pub enum Refusal {
-    NoSuchPlace,
+    OutOfRange,
     BadArgument,
     OnTheWire,
     Locked,
@@ -17,6 +17,7 @@ pub enum Refusal {
 }
 
 pub enum Answer {
+    // The value.
     Accepted(u8),
     Refused(Refusal),
 }
@@ -27,7 +28,7 @@ impl Refusal {
         ensures { λ r. ⌜ r ≡ numberOf self ⌝ }
     {
         match self {
-            Refusal::NoSuchPlace => 1,
+            Refusal::OutOfRange => 1,
             Refusal::BadArgument => 2,
             Refusal::OnTheWire => 3,
             Refusal::Locked => 4,

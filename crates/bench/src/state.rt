@@ -79,14 +79,14 @@ fn reading(c: Controller, register: u8) -> u8 {
 fn put_state(line: &mut [u8; 128], at: usize, c: Controller) -> usize {
     let armed = if c.armed { 1 } else { 0 };
     let turn = c.turn;
-    let a = put_byte(line, at, b"status ", reading(c, 0));
-    let b = put_byte(line, a, b" control ", reading(c, 3));
-    let d = put_field(line, b, b" pointer ", c.pointer);
-    let e = put_field(line, d, b" hand ", c.hand);
-    let f = put_field(line, e, b" moved ", c.moved);
-    let g = put_field(line, f, b" armed ", armed);
-    let h = put_word(line, g, b" turn ");
-    put_turn(line, h, turn)
+    let at = put_byte(line, at, b"status ", reading(c, 0));
+    let at = put_byte(line, at, b" control ", reading(c, 3));
+    let at = put_field(line, at, b" pointer ", c.pointer);
+    let at = put_field(line, at, b" hand ", c.hand);
+    let at = put_field(line, at, b" moved ", c.moved);
+    let at = put_field(line, at, b" armed ", armed);
+    let at = put_word(line, at, b" turn ");
+    put_turn(line, at, turn)
 }
 
 // The line for one access or event.
@@ -94,11 +94,11 @@ pub(crate) fn print_reply(reply: Reply) {
     let mut line = [0u8; 128];
     let answer = reply.answer;
     let c = reply.controller;
-    let a = put_field(&mut line, 0, b"refused ", answer.refused());
-    let b = put_byte(&mut line, a, b" value ", answer.value());
-    let d = put_word(&mut line, b, b" ");
-    let e = put_state(&mut line, d, c);
-    let end = put_word(&mut line, e, b"\n");
+    let at = put_field(&mut line, 0, b"refused ", answer.refused());
+    let at = put_byte(&mut line, at, b" value ", answer.value());
+    let at = put_word(&mut line, at, b" ");
+    let at = put_state(&mut line, at, c);
+    let end = put_word(&mut line, at, b"\n");
     write(&line, end);
 }
 

@@ -7,7 +7,7 @@ use Prim.Native.Nat.{ℕ}
 use denote.Enum.Declared.{tagOf}
 use lib.Dec.{T}
 use types.Run.{OneOf}
-use Rattle.control.specs.Turns.{host, kind, statusOf}
+use Rattle.control.specs.Turn.{host, kind, statusOf}
 use Rattle.control.specs.declared.turn.Turn.the-variants.{Off, Host, Free, Busy, Listen, Address, Send, Receive, SlaveReceive, SlaveSend, Stopping, Restarting}
 use Rattle.control.specs.declared.turn.Turn.{Turn}
 use Rattle.notation.proofs.Among.{has, every, same, among-has, keys-in}

@@ -1,4 +1,4 @@
 -- The turn, the flags of I2CCON, and what writing them does to the turn.
-pub mod Turns
+pub mod Turn
 pub mod Flags
 pub mod Writing

@@ -1,7 +1,7 @@
--- Document 01, Writing I2CCON: where an accepted write with ENSIO 1 leads.
+-- Document 01, Writing I2CCON: where a write with ENSIO 1 leads, or that it is not listed.
 use mathlib.Core.List.{[], _∷_}
 use Prim.Native.Nat.{ℕ}
-use Rattle.control.specs.Turns.{off, host, waits, statusOf, edgeOf}
+use Rattle.control.specs.Turn.{off, host, waits, statusOf, edgeOf}
 use Rattle.control.specs.declared.flags.Control.{Control}
 use Rattle.control.specs.declared.turn.Called.the-variants.{Own, General}
 use Rattle.control.specs.declared.turn.Edge.the-variants.{Stop, Start}
@@ -24,7 +24,7 @@ unfoldable pub afterEdge : Edge → Turn
 afterEdge Stop = Free
 afterEdge Start = Listen
 
--- "by the status before it". What is not listed is refused 5.
+-- "by the status before it". What is not listed is refused 5; at 00h, 70h and 78h a write is refused 4 before that.
 unfoldable pub atStatus : ℕ → Edge → Control → Response
 atStatus status edge k =
     if among status (0x08 ∷ 0x10 ∷ []) then (if k .mode then Unlisted else Next Address)

@@ -1,9 +1,9 @@
 // The turn: what the controller waits for (document 01's term), with what that wait needs and the record does not hold.
 ghost use mathlib.Core.Path.{_≡_};
 ghost use mathlib.Core.List.{[], _∷_};
-ghost use Rattle.control.specs.Turns.{host, waits, wireTurns, dataTurns, statusOf};
+ghost use Rattle.control.specs.Turn.{host, waits, wireTurns, dataTurns, statusOf};
 
-// Which bus condition ended a slave reception. It matters at status A0h alone; every other status carries `Stop`.
+// Which bus condition ended a slave reception. It matters at status A0h alone; the rules write `Stop` with every other.
 pub enum Edge {
     Stop,
     Start,
@@ -18,7 +18,7 @@ pub enum Called {
 // Address to Restarting are the wire turns.
 pub enum Turn {
     Off,
-    // SI is 1: the host is to write I2CCON. The status, and at A0h the bus condition.
+    // SI is 1, and the host has the next move. The status, and at A0h the bus condition.
     Host(u8, Edge),
     Free,
     Busy,

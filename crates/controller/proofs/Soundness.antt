@@ -5,9 +5,9 @@ use Prim.Native.Nat.{_≤_, _<_}
 use native.Mathlib.Omega.{arith}
 use borrow.Author.Tests.{leb-true, ltb-true, eqb-true, le-leb}
 use lib.Dec.{leb, ltb, eqb}
-use Rattle.control.specs.Turns.{kind, dataTurns}
+use Rattle.control.specs.Turn.{kind, dataTurns}
 use Rattle.controller.specs.Record.{byteCount, hostSound, moveSound, sound}
-use Rattle.controller.specs.Transfers.{cursor}
+use Rattle.controller.specs.Transfer.{cursor}
 use Rattle.controller.specs.declared.record.Controller.{Controller}
 use Rattle.notation.proofs.Cases.{if-true, if-false, and-true, and-left, and-right}
 use Rattle.notation.specs.Choice.{if_then_else_, _and_, among}

@@ -4,7 +4,7 @@ use mathlib.Core.List.{[], _∷_}
 use Prim.Native.Nat.{ℕ}
 use lib.Dec.{eqb, ltb}
 use Rattle.control.specs.Flags.{flagsOf}
-use Rattle.control.specs.Turns.{stopping, dataTurns, waits, statusOf}
+use Rattle.control.specs.Turn.{stopping, dataTurns, waits, statusOf}
 use Rattle.control.specs.Writing.{response}
 use Rattle.control.specs.declared.flags.Control.{Control}
 use Rattle.control.specs.declared.turn.Turn.the-variants.{Off}

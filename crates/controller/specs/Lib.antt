@@ -4,7 +4,7 @@ pub mod Reply
 pub mod Reset
 pub mod Registers
 pub mod I2ccon
-pub mod Accesses
-pub mod Conditions
-pub mod Transfers
-pub mod Events
+pub mod Access
+pub mod Condition
+pub mod Transfer
+pub mod Event

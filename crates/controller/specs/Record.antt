@@ -4,7 +4,7 @@ use mathlib.Core.List.{List, [], _∷_}
 use Prim.Native.Nat.{ℕ, _/_, _%_}
 use lib.Dec.{eqb, leb, ltb}
 use lib.ListN.{getD, set}
-use Rattle.control.specs.Turns.{host, dataTurns, waits, statusOf}
+use Rattle.control.specs.Turn.{host, dataTurns, waits, statusOf}
 use Rattle.control.specs.declared.flags.Control.{Control}
 use Rattle.control.specs.declared.turn.Turn.{Turn}
 use Rattle.controller.specs.declared.record.Controller.{Controller}

@@ -34,6 +34,6 @@ waitsFor c turn value = accepts (withTurn c turn) value
 unfoldable pub interruptsAt : Controller → ℕ → Edge → ℕ → Outcome
 interruptsAt c status edge value = accepts (withHand (withTurn c (Host status edge)) 0) value
 
--- the same for every status but A0h, where no bus condition is kept
+-- every status but A0h: the bus condition does not matter there, and `Stop` is written
 abbrev pub gives : Controller → ℕ → ℕ → Outcome
 gives c status value = interruptsAt c status Stop value

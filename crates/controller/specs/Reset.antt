@@ -36,10 +36,11 @@ reset c = resetWith (c .buffer)
 abbrev pub fresh : Controller
 fresh = resetWith (replicate 68 0)
 
--- I2CPRESET: "A5h .. arms it, 5Ah .. as the next accepted write resets. Any other accepted write disarms, but A5h .. arms again"
+-- "5Ah to I2CPRESET as the next accepted write resets"
 unfoldable pub completesReset : Controller → ℕ → Bool
 completesReset c value = c .armed and eqb value 0x5A
 
+-- I2CPRESET: "A5h written to I2CPRESET arms it .. Any other accepted write disarms, but A5h to I2CPRESET arms again"
 unfoldable pub writePreset : Controller → ℕ → Outcome
 writePreset c value =
     if completesReset c value then accepts (reset c) 0

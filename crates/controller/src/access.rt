@@ -6,12 +6,12 @@ ghost use mathlib.Core.Path.{_≡_};
 ghost use mathlib.Core.Bool.{true};
 ghost use Rattle.controller.specs.Record.{sound};
 ghost use Rattle.controller.specs.Reply.{outcomeOf};
-ghost use Rattle.controller.specs.Accesses.{barsRead, barsWrite, closedAt, readSound, readOf, writeSound, writeOf};
+ghost use Rattle.controller.specs.Access.{barsRead, barsWrite, indirectAt, readSound, readOf, writeSound, writeOf};
 
 impl Controller {
-    // Register 2 is not open at this pointer.
-    fn is_closed_at(self, register: u8, pointer: u8) -> bool
-        ensures { λ r. ⌜ r ≡ closedAt self register pointer ⌝ }
+    // Register 2 is meant, and the pointer is this one.
+    fn is_indirect_at(self, register: u8, pointer: u8) -> bool
+        ensures { λ r. ⌜ r ≡ indirectAt self register pointer ⌝ }
     {
         let indirect = register == 2;
         if indirect {
@@ -38,7 +38,7 @@ impl Controller {
         if indirection {
             return false;
         }
-        if self.is_closed_at(register, 5) {
+        if self.is_indirect_at(register, 5) {
             return false;
         }
         let turn = self.turn;
@@ -49,7 +49,7 @@ impl Controller {
         requires { ⌜ sound self ≡ true ⌝ }
         ensures { λ r. ⌜ outcomeOf r ≡ readSound self register ⌝ }
     {
-        if self.is_closed_at(register, 5) {
+        if self.is_indirect_at(register, 5) {
             return self.refuse(Refusal::Inaccessible);
         }
         if self.bars_read(register) {
@@ -72,7 +72,7 @@ impl Controller {
         ensures { λ r. ⌜ outcomeOf r ≡ readOf self register ⌝ }
     {
         if 3 < register {
-            return self.refuse(Refusal::NoSuchPlace);
+            return self.refuse(Refusal::OutOfRange);
         }
         if self.is_sound() {
             self.read_sound(register)
@@ -85,7 +85,7 @@ impl Controller {
         requires { ⌜ sound self ≡ true ⌝ }
         ensures { λ r. ⌜ outcomeOf r ≡ writeSound self register value ⌝ }
     {
-        if self.is_closed_at(register, 7) {
+        if self.is_indirect_at(register, 7) {
             return self.refuse(Refusal::Inaccessible);
         }
         if self.bars_write(register) {
@@ -104,7 +104,7 @@ impl Controller {
         ensures { λ r. ⌜ outcomeOf r ≡ writeOf self register value ⌝ }
     {
         if 3 < register {
-            return self.refuse(Refusal::NoSuchPlace);
+            return self.refuse(Refusal::OutOfRange);
         }
         if self.is_sound() {
             self.write_sound(register, value)

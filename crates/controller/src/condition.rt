@@ -1,16 +1,16 @@
 // Bus conditions and address bytes: events 1 to 5 and 8 to 13.
 use crate::record::Controller;
 use crate::reply::Reply;
-use address::AddressByte;
-use address::Direction;
-use address::Match;
-use address::match_address;
+use address::matching::Match;
+use address::matching::match_address;
+use address::number::AddressByte;
+use address::number::Direction;
 use answer::Refusal;
 use control::turn::Edge;
 use control::turn::Turn;
 ghost use mathlib.Core.Path.{_≡_};
 ghost use Rattle.controller.specs.Reply.{outcomeOf};
-ghost use Rattle.controller.specs.Conditions.{ownStart, otherStart, otherStop, ownStop, matches, addressed, addressByte, outbid, addressLost, dataLost, illegalEdge, dataHeld, clockHeld, idle};
+ghost use Rattle.controller.specs.Condition.{ownStart, otherStart, otherStop, ownStop, matches, addressed, addressByte, outbid, addressLost, dataLost, illegalEdge, dataHeld, clockHeld, idle};
 
 impl Controller {
     // 1. Own START.

@@ -6,7 +6,7 @@ ghost use mathlib.Core.Path.{_≡_};
 ghost use mathlib.Core.Bool.{true};
 ghost use Rattle.controller.specs.Record.{sound};
 ghost use Rattle.controller.specs.Reply.{outcomeOf};
-ghost use Rattle.controller.specs.Events.{badArgument, eventSound, eventOf};
+ghost use Rattle.controller.specs.Event.{badArgument, eventSound, eventOf};
 
 // The argument is not one that the event takes.
 fn is_bad_argument(number: u8, argument: u8) -> bool
@@ -50,10 +50,10 @@ impl Controller {
     {
         let none = number == 0;
         if none {
-            return self.refuse(Refusal::NoSuchPlace);
+            return self.refuse(Refusal::OutOfRange);
         }
         if 14 < number {
-            return self.refuse(Refusal::NoSuchPlace);
+            return self.refuse(Refusal::OutOfRange);
         }
         if is_bad_argument(number, argument) {
             return self.refuse(Refusal::BadArgument);

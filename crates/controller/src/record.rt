@@ -27,7 +27,7 @@ pub struct Controller {
     // The moved count (document 01's term): data bytes moved since the last accepted I2CCON write.
     pub moved: u8,
     pub pointer: u8,
-    // A5h was written to I2CPRESET, and nothing since.
+    // The last accepted write was A5h to I2CPRESET.
     pub armed: bool,
     pub registers: Registers,
     pub control: Control,

@@ -59,7 +59,7 @@ impl Controller {
         if self.armed { value == 0x5A } else { false }
     }
 
-    // A write to I2CPRESET: 5Ah right after A5h resets.
+    // A write to I2CPRESET: it resets, or arms, or disarms.
     pub(crate) fn write_preset(mut self, value: u8) -> Reply
         ensures { λ r. ⌜ outcomeOf r ≡ writePreset self value ⌝ }
     {

@@ -1,6 +1,8 @@
 // Bytes out and in: events 6 and 7.
 use crate::record::Controller;
 use crate::reply::Reply;
+use address::number::AddressByte;
+use address::number::Direction;
 use answer::Refusal;
 use control::turn::Called;
 use control::turn::Turn;
@@ -9,18 +11,16 @@ ghost use mathlib.Core.Bool.{true};
 ghost use Prim.Native.Nat.{_<_};
 ghost use Rattle.controller.specs.Record.{sound};
 ghost use Rattle.controller.specs.Reply.{outcomeOf};
-ghost use Rattle.controller.specs.Transfers.{cursor, isLast, dataOut, addressStatus, byteOut, acknowledgesLast, received, dataIn, slaveIn, byteIn};
+ghost use Rattle.controller.specs.Transfer.{cursor, isLast, dataOut, addressStatus, byteOut, acknowledgesLast, received, dataIn, slaveIn, byteIn};
 
 // The status after an address byte that was acknowledged (0) or not (1).
-fn address_status(byte: u8, nack: u8) -> u8
-    ensures { λ r. ⌜ r ≡ addressStatus byte nack ⌝ }
+fn address_status(direction: Direction, nack: u8) -> u8
+    ensures { λ r. ⌜ r ≡ addressStatus direction nack ⌝ }
 {
-    let read = byte % 2 == 1;
     let refused = nack == 1;
-    if read {
-        if refused { 0x48 } else { 0x40 }
-    } else {
-        if refused { 0x20 } else { 0x18 }
+    match direction {
+        Direction::Write => { if refused { 0x20 } else { 0x18 } }
+        Direction::Read => { if refused { 0x48 } else { 0x40 } }
     }
 }
 
@@ -86,7 +86,8 @@ impl Controller {
             Turn::Address => {
                 let buffer = self.buffer;
                 let byte = buffer[0];
-                self.give(address_status(byte, nack), byte)
+                let direction = AddressByte(byte).direction();
+                self.give(address_status(direction, nack), byte)
             }
             Turn::Send => self.data_out(nack, 0x30, 0x28),
             Turn::SlaveSend => {

@@ -7,11 +7,11 @@ use borrow.Author.Tests.{eq-eqb, ne-eqb}
 use lib.Dec.{eqb}
 use Rattle.address.specs.Matching.{matchOf}
 use Rattle.address.specs.Number.{bitOf, byteOf, addressOf, directionOf}
-use Rattle.address.specs.declared.Address.{Address}
-use Rattle.address.specs.declared.AddressByte.{AddressByte}
-use Rattle.address.specs.declared.Direction.the-variants.{Write, Read}
-use Rattle.address.specs.declared.Direction.{Direction}
-use Rattle.address.specs.declared.Match.the-variants.{Nothing}
+use Rattle.address.specs.declared.matching.Match.the-variants.{Nothing}
+use Rattle.address.specs.declared.number.Address.{Address}
+use Rattle.address.specs.declared.number.AddressByte.{AddressByte}
+use Rattle.address.specs.declared.number.Direction.the-variants.{Write, Read}
+use Rattle.address.specs.declared.number.Direction.{Direction}
 use Rattle.notation.proofs.Cases.{if-true, if-false}
 use Rattle.notation.specs.Choice.{if_then_else_, _and_}
 

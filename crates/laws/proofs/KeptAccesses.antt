@@ -7,7 +7,7 @@ use native.Mathlib.Omega.{arith}
 use borrow.Author.Tests.{eqb-false, ltb-false, le-leb, lt-ltb}
 use lib.Dec.{eqb, leb, ltb, lit≤}
 use Rattle.control.specs.Flags.{flagsOf}
-use Rattle.control.specs.Turns.{off, host, wireTurns, dataTurns, kind, statusOf, edgeOf}
+use Rattle.control.specs.Turn.{off, host, wireTurns, dataTurns, kind, statusOf, edgeOf}
 use Rattle.control.specs.Writing.{ends as endsAt, afterEdge, atStatus, response}
 use Rattle.control.specs.declared.flags.Control.{Control}
 use Rattle.control.specs.declared.turn.Edge.the-variants.{Stop, Start}
@@ -17,7 +17,7 @@ use Rattle.control.specs.declared.turn.Turn.{Turn}
 use Rattle.control.specs.declared.writing.Response.the-variants.{Next, Unlisted}
 use Rattle.control.specs.declared.writing.Response.{Response}
 use Rattle.controller.proofs.Soundness.{parts, whole}
-use Rattle.controller.specs.Accesses.{barsWrite, readSound, writeSound}
+use Rattle.controller.specs.Access.{barsWrite, indirectAt, readSound, writeSound}
 use Rattle.controller.specs.I2ccon.{keeps, controlled, badCount, enabled, withoutStart, writeFlags, writeControl}
 use Rattle.controller.specs.Record.{place, byteCount, hostSound, moveSound, sound, withPlace, withHand, withPointer, withArmed, withRegisters}
 use Rattle.controller.specs.Registers.{wrote, writePointer, readData, writeData, stored, writeAtPointer}
@@ -193,7 +193,7 @@ unfolding readSound
 read-kept c register s = search (refused, accepted, either, read-data) depth 12
 
 pub write-kept : (c : Controller) (register value : ℕ) → sound c ≡ true → Kept (writeSound c register value)
-unfolding writeSound barsWrite
+unfolding writeSound barsWrite indirectAt
 write-kept c register value s =
     either _ _ _ (refused c 9 s)
     (split Kept (barsWrite c register) _ _ (λ e. refused c 3 s)

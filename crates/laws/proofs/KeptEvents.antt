@@ -2,21 +2,22 @@
 use mathlib.Core.Bool.{Bool, true, false, true≢false}
 use mathlib.Core.List.{[], _∷_}
 use mathlib.Core.Path.{_≡_, sym, _∙_}
-use Prim.Native.Nat.{ℕ, _+_, _%_}
+use Prim.Native.Nat.{ℕ, _+_}
 use native.Mathlib.Omega.{arith}
 use borrow.Author.Tests.{ltb-true, eqb-false, lt-ltb}
 use lib.Dec.{T, eqb, leb, ltb}
-use Rattle.address.specs.declared.Direction.the-variants.{Write, Read}
-use Rattle.address.specs.declared.Match.the-variants.{Own, General, Nothing}
-use Rattle.address.specs.declared.Match.{Match}
-use Rattle.control.specs.Turns.{send, receive, slaveReceive, slaveSend, dataTurns, kind, calledOf}
+use Rattle.address.specs.declared.matching.Match.the-variants.{Own, General, Nothing}
+use Rattle.address.specs.declared.matching.Match.{Match}
+use Rattle.address.specs.declared.number.Direction.the-variants.{Write, Read}
+use Rattle.address.specs.declared.number.Direction.{Direction}
+use Rattle.control.specs.Turn.{send, receive, slaveReceive, slaveSend, dataTurns, kind, calledOf}
 use Rattle.control.specs.declared.turn.Called.the-variants as called
 use Rattle.control.specs.declared.turn.Called.{Called}
 use Rattle.controller.proofs.Soundness.{parts, whole, moving}
-use Rattle.controller.specs.Conditions.{withoutStop, ownStart, otherStart, otherStop, ownStop, addressed, addressByte, outbid, addressLost, dataLost, illegalEdge, dataHeld, clockHeld, idle}
-use Rattle.controller.specs.Events.{eventSound}
-use Rattle.controller.specs.Record.{place, byteCount, givenStatuses, moveSound, sound, withControl}
-use Rattle.controller.specs.Transfers.{isLast, counted, dataOut, addressStatus, byteOut, acknowledgesLast, received, dataIn, slaveIn, byteIn}
+use Rattle.controller.specs.Condition.{withoutStop, ownStart, otherStart, otherStop, ownStop, addressed, addressByte, outbid, addressLost, dataLost, illegalEdge, dataHeld, clockHeld, idle}
+use Rattle.controller.specs.Event.{eventSound}
+use Rattle.controller.specs.Record.{byteCount, givenStatuses, moveSound, sound, withControl}
+use Rattle.controller.specs.Transfer.{isLast, counted, dataOut, addressStatus, byteOut, acknowledgesLast, received, dataIn, slaveIn, byteIn, sentDirection}
 use Rattle.controller.specs.declared.record.Controller.{Controller}
 use Rattle.notation.proofs.Among.{has, within}
 use Rattle.notation.proofs.Cases.{if-true, and-true, and-left, and-right, split}
@@ -134,16 +135,15 @@ module _ (c : Controller) (s : sound c ≡ true) (t : among (kind (c .turn)) dat
       (λ e. either (acknowledgesLast c) _ _ (interrupted (received c byte) taken _ 0 r g) (interrupted (received c byte) ended _ 1 r h))
       (λ l. accepted (received c byte) 0 (goes-on l))
 
-status-given : (byte nack : ℕ) → T (has givenStatuses (addressStatus byte nack))
+status-given : (d : Direction) (nack : ℕ) → T (has givenStatuses (addressStatus d nack))
 unfolding addressStatus
-status-given byte nack =
-    let P : ℕ → Type 0 = λ n. T (has givenStatuses n) in
-    split P (eqb (byte % 2) 1) _ _ (λ e. split P (eqb nack 1) 0x48 0x40 (λ e. tt) (λ e. tt)) (λ e. split P (eqb nack 1) 0x20 0x18 (λ e. tt) (λ e. tt))
+status-given Write nack = split (λ n. T (has givenStatuses n)) (eqb nack 1) 0x20 0x18 (λ e. tt) (λ e. tt)
+status-given Read nack = split (λ n. T (has givenStatuses n)) (eqb nack 1) 0x48 0x40 (λ e. tt) (λ e. tt)
 
 byte-out : (c : Controller) (nack : ℕ) → sound c ≡ true → Kept (byteOut c nack)
 unfolding byteOut
 byte-out c nack s =
-    split Kept _ _ _ (λ e. interrupted c _ _ _ (ranges c s) (status-given (place c 0) nack))
+    split Kept _ _ _ (λ e. interrupted c _ _ _ (ranges c s) (status-given (sentDirection c) nack))
     (λ e. split Kept (among (kind (c .turn)) (send ∷ [])) _ _ (λ t. data-out c s (within _ (send ∷ []) dataTurns tt t) nack 0x30 0x28 tt tt)
     (λ e. split Kept (among (kind (c .turn)) (slaveSend ∷ [])) _ _
     (λ t. data-out c s (within _ (slaveSend ∷ []) dataTurns tt t) nack 0xC0 (if c .control .aa then 0xB8 else 0xC8) tt

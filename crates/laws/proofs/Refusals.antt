@@ -2,9 +2,9 @@
 use mathlib.Core.Bool.{Bool, true, false}
 use mathlib.Core.Path.{_≡_, refl}
 use Prim.Native.Nat.{ℕ}
-use Rattle.address.specs.declared.Direction.the-variants.{Write, Read}
-use Rattle.address.specs.declared.Match.the-variants.{Own, General, Nothing}
-use Rattle.address.specs.declared.Match.{Match}
+use Rattle.address.specs.declared.matching.Match.the-variants.{Own, General, Nothing}
+use Rattle.address.specs.declared.matching.Match.{Match}
+use Rattle.address.specs.declared.number.Direction.the-variants.{Write, Read}
 use Rattle.control.specs.declared.flags.Control.{Control}
 use Rattle.control.specs.declared.turn.Called.the-variants as called
 use Rattle.control.specs.declared.turn.Called.{Called}
@@ -12,14 +12,14 @@ use Rattle.control.specs.declared.turn.Edge.{Edge}
 use Rattle.control.specs.declared.turn.Turn.{Turn}
 use Rattle.control.specs.declared.writing.Response.the-variants.{Next, Unlisted}
 use Rattle.control.specs.declared.writing.Response.{Response}
-use Rattle.controller.specs.Accesses.{readSound, readOf, writeSound, writeOf}
-use Rattle.controller.specs.Conditions.{ownStart, otherStart, otherStop, ownStop, addressed, addressByte, outbid, addressLost, dataLost, illegalEdge, dataHeld, clockHeld, idle}
-use Rattle.controller.specs.Events.{eventSound, eventOf}
+use Rattle.controller.specs.Access.{readSound, readOf, writeSound, writeOf}
+use Rattle.controller.specs.Condition.{ownStart, otherStart, otherStop, ownStop, addressed, addressByte, outbid, addressLost, dataLost, illegalEdge, dataHeld, clockHeld, idle}
+use Rattle.controller.specs.Event.{eventSound, eventOf}
 use Rattle.controller.specs.I2ccon.{controlled, enabled, writeFlags, writeControl}
 use Rattle.controller.specs.Registers.{wrote, writePointer, readData, writeData, writeAtPointer}
 use Rattle.controller.specs.Reply.{Outcome, refuses, accepts, waitsFor, interruptsAt}
 use Rattle.controller.specs.Reset.{writePreset}
-use Rattle.controller.specs.Transfers.{dataOut, byteOut, dataIn, slaveIn, byteIn}
+use Rattle.controller.specs.Transfer.{dataOut, byteOut, dataIn, slaveIn, byteIn}
 use Rattle.controller.specs.declared.record.Controller.{Controller}
 use Rattle.notation.specs.Choice.{if_then_else_}
 

@@ -4,8 +4,8 @@ use mathlib.Core.Bool.{true}
 use mathlib.Core.Path.{_≡_}
 use Prim.Native.Nat.{ℕ}
 use lib.ListN.{replicate}
-use Rattle.controller.specs.Accesses.{readOf, writeOf}
-use Rattle.controller.specs.Events.{badArgument, eventOf}
+use Rattle.controller.specs.Access.{readOf, writeOf}
+use Rattle.controller.specs.Event.{badArgument, eventOf}
 use Rattle.controller.specs.Record.{sound}
 use Rattle.controller.specs.Reply.{accepts}
 use Rattle.controller.specs.Reset.{fresh}

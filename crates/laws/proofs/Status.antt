@@ -7,9 +7,9 @@ use borrow.Author.Tests.{eqb-true, eq-eqb}
 use lib.Dec.{T, eqb}
 use Rattle.control.proofs.Turning.{status-idle}
 use Rattle.control.specs.Flags.{weighs, readsAs}
-use Rattle.control.specs.Turns.{host, wireTurns, kind, statusOf}
+use Rattle.control.specs.Turn.{host, wireTurns, kind, statusOf}
 use Rattle.controller.proofs.Soundness.{parts}
-use Rattle.controller.specs.Accesses.{closedAt, barsRead, readSound, readOf}
+use Rattle.controller.specs.Access.{indirectAt, barsRead, readSound, readOf}
 use Rattle.controller.specs.Record.{interrupts, givenStatuses, hostSound, sound}
 use Rattle.controller.specs.Reply.{accepts}
 use Rattle.controller.specs.declared.record.Controller.{Controller}
@@ -69,7 +69,7 @@ interrupt-bit c =
 
 -- what register 3 reads of a sound record
 control-reads : (c : Controller) → sound c ≡ true → (readOf c 3) .value ≡ readsAs (c .control) (interrupts c)
-unfolding readOf readSound closedAt barsRead accepts if_then_else_ _and_
+unfolding readOf readSound indirectAt barsRead accepts if_then_else_ _and_
 control-reads c s = rw (s, and-no-right (among (kind (c .turn)) wireTurns) false refl)
 
 -- SI, as register 3 shows it, is 1 exactly in Host.
@@ -86,7 +86,7 @@ given-not-idle x e = step (eqb x 0xF8) refl
 
 -- what register 0 reads of a sound record
 status-reads : (c : Controller) → sound c ≡ true → (readOf c 0) .value ≡ statusOf (c .turn)
-unfolding readOf readSound closedAt barsRead accepts if_then_else_ _and_
+unfolding readOf readSound indirectAt barsRead accepts if_then_else_ _and_
 status-reads c s = rw (s, and-no-right (among (kind (c .turn)) wireTurns) false refl)
 
 idle-status : (c : Controller) → sound c ≡ true → eqb (statusOf (c .turn)) 0xF8 ≡ not (interrupts c)

@@ -2,7 +2,7 @@
 use mathlib.Core.List.{[], _∷_}
 use mathlib.Core.Path.{_∙_}
 use borrow.Author.Needs.{needs}
-use Rattle.control.specs.Turns.{kind, statusOf, edgeOf}
+use Rattle.control.specs.Turn.{kind, statusOf, edgeOf}
 use Rattle.control.specs.Writing.{response}
 use Rattle.notation.proofs.Cases.{cases}
 use Rattle.notation.specs.Choice.{among, if_then_else_}

@@ -1,6 +1,6 @@
 -- `is_bad_argument` is `badArgument`: what is known at each return settles the tests of the definition.
 use borrow.Author.Tests.{ne-eqb}
-use Rattle.controller.specs.Events.{badArgument}
+use Rattle.controller.specs.Event.{badArgument}
 use Rattle.notation.proofs.Among.{key-is}
 use Rattle.notation.proofs.Cases.{cases}
 use Rattle.controller.proofs.event.is_bad_argument.Statement.{statement}

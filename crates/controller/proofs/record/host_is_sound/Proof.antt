@@ -3,7 +3,7 @@ use mathlib.Core.List.{[], _∷_}
 use mathlib.Core.Path.{_∙_}
 use borrow.Author.Needs.{needs}
 use Rattle.control.proofs.Turning.{at-turns}
-use Rattle.control.specs.Turns.{kind, statusOf}
+use Rattle.control.specs.Turn.{kind, statusOf}
 use Rattle.controller.specs.Record.{hostSound}
 use Rattle.notation.proofs.Cases.{cases}
 use Rattle.notation.specs.Choice.{among, if_then_else_}

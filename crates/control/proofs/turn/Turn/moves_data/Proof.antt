@@ -2,7 +2,7 @@
 use mathlib.Core.Bool.{true, false}
 use mathlib.Core.List.{[], _∷_}
 use mathlib.Core.Path.{sym}
-use Rattle.control.specs.Turns.{dataTurns}
+use Rattle.control.specs.Turn.{dataTurns}
 use Rattle.control.proofs.Turning.{at-turns}
 use Rattle.control.proofs.turn.Turn.moves_data.Statement.{statement}
 use Rattle.control.proofs.turn.Turn.moves_data.Tie as tie

@@ -2,7 +2,7 @@
 use mathlib.Core.Bool.{true, false}
 use mathlib.Core.List.{[], _∷_}
 use mathlib.Core.Path.{sym}
-use Rattle.control.specs.Turns.{wireTurns}
+use Rattle.control.specs.Turn.{wireTurns}
 use Rattle.control.proofs.Turning.{at-turns}
 use Rattle.control.proofs.turn.Turn.on_wire.Statement.{statement}
 use Rattle.control.proofs.turn.Turn.on_wire.Tie as tie

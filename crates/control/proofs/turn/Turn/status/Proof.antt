@@ -3,7 +3,7 @@ use mathlib.Core.Bool.{false}
 use mathlib.Core.List.{[], _∷_}
 use mathlib.Core.Path.{sym}
 use borrow.Author.Needs.{needs}
-use Rattle.control.specs.Turns.{statusOf}
+use Rattle.control.specs.Turn.{statusOf}
 use Rattle.control.proofs.Turning.{at-turns, status-idle}
 use Rattle.control.proofs.turn.Turn.status.Statement.{statement}
 use Rattle.control.proofs.turn.Turn.status.Tie as tie

@@ -1,5 +1,5 @@
 -- `acknowledges_last` is `acknowledgesLast`: what is known at each return settles the tests of the definition.
-use Rattle.controller.specs.Transfers.{acknowledgesLast}
+use Rattle.controller.specs.Transfer.{acknowledgesLast}
 use Rattle.notation.proofs.Cases.{cases}
 use Rattle.controller.proofs.record.Controller.acknowledges_last.Statement.{statement}
 use Rattle.controller.proofs.record.Controller.acknowledges_last.Tie as tie

@@ -3,7 +3,7 @@ use mathlib.Core.List.{[], _∷_}
 use mathlib.Core.Path.{_∙_}
 use borrow.Author.Needs.{needs}
 use Rattle.control.proofs.Turning.{at-turn, at-turns}
-use Rattle.controller.specs.Conditions.{addressLost}
+use Rattle.controller.specs.Condition.{addressLost}
 use Rattle.notation.proofs.Cases.{cases}
 use Rattle.controller.proofs.record.Controller.address_lost.Statement.{statement}
 use Rattle.controller.proofs.record.Controller.address_lost.Tie as tie

@@ -1,7 +1,7 @@
 -- `addressed` is `addressed`: what is known at each return settles the tests of the definition.
 use mathlib.Core.Path.{_∙_}
 use borrow.Author.Needs.{needs}
-use Rattle.controller.specs.Conditions.{addressed}
+use Rattle.controller.specs.Condition.{addressed}
 use Rattle.controller.proofs.record.Controller.addressed.Statement.{statement}
 use Rattle.controller.proofs.record.Controller.addressed.Tie as tie
 

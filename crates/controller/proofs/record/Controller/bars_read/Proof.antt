@@ -1,7 +1,7 @@
 -- `bars_read` is `barsRead`: what is known at each return settles the tests of the definition.
 use mathlib.Core.Path.{sym, _∙_}
 use borrow.Author.Needs.{needs}
-use Rattle.controller.specs.Accesses.{barsRead}
+use Rattle.controller.specs.Access.{barsRead}
 use Rattle.notation.proofs.Cases.{cases}
 use Rattle.controller.proofs.record.Controller.bars_read.Statement.{statement}
 use Rattle.controller.proofs.record.Controller.bars_read.Tie as tie

@@ -4,8 +4,8 @@ use mathlib.Core.List.{[], _∷_}
 use mathlib.Core.Path.{_∙_, refl}
 use borrow.Author.Needs.{needs}
 use Rattle.control.proofs.Turning.{at-turn, at-turns}
-use Rattle.control.specs.Turns.{dataTurns, kind, calledOf}
-use Rattle.controller.specs.Transfers.{byteIn}
+use Rattle.control.specs.Turn.{dataTurns, kind, calledOf}
+use Rattle.controller.specs.Transfer.{byteIn}
 use Rattle.notation.proofs.Cases.{cases}
 use Rattle.notation.specs.Choice.{among, if_then_else_}
 use Rattle.controller.proofs.Soundness.{moving}

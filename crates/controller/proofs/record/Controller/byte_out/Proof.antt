@@ -1,11 +1,11 @@
 -- `byte_out` is `byteOut`: what is known at each return settles the tests of the definition.
 use mathlib.Core.Bool.{true}
 use mathlib.Core.List.{[], _∷_}
-use mathlib.Core.Path.{_∙_, refl}
+use mathlib.Core.Path.{refl, _∙_}
 use borrow.Author.Needs.{needs}
 use Rattle.control.proofs.Turning.{at-turn, at-turns}
-use Rattle.control.specs.Turns.{dataTurns}
-use Rattle.controller.specs.Transfers.{byteOut}
+use Rattle.control.specs.Turn.{dataTurns}
+use Rattle.controller.specs.Transfer.{byteOut}
 use Rattle.notation.proofs.Cases.{cases}
 use Rattle.controller.proofs.Soundness.{moving}
 use Rattle.controller.proofs.record.Controller.byte_out.Statement.{statement}
@@ -22,7 +22,7 @@ data-out-requires-3 c κs = moving (c .before .before .before .args .self) (c .b
 
 returns : tie.Need-returns
 unfolding byteOut
-returns c = c .give .ensures ∙ rw (c .before .address-status .ensures) (search (at-turn 5 (c .before .before .before .before .before .args .self .turn) (c .before .before .before .before .match .keys1), cases))
+returns c = c .give .ensures ∙ rw (c .before .address-status .ensures, c .before .before .direction .ensures) (search (at-turn 5 (c .before .before .before .before .before .before .args .self .turn) (c .before .before .before .before .before .match .keys1), cases))
 
 returns-2 : tie.Need-returns-2
 unfolding byteOut
@@ -46,6 +46,7 @@ byte-out-spec =
     (tie.spec
     (λ c. search needs)
     (λ c. search needs)
+    (λ c κs. search needs)
     (λ c κs. search needs)
     (λ c κs. search needs)
     (λ c. search needs)

@@ -2,7 +2,7 @@
 use mathlib.Core.List.{[], _∷_}
 use borrow.Author.Needs.{needs}
 use Rattle.control.proofs.Turning.{at-turns}
-use Rattle.controller.specs.Conditions.{clockHeld}
+use Rattle.controller.specs.Condition.{clockHeld}
 use Rattle.notation.proofs.Cases.{cases}
 use Rattle.controller.proofs.record.Controller.clock_held.Statement.{statement}
 use Rattle.controller.proofs.record.Controller.clock_held.Tie as tie

@@ -1,5 +1,5 @@
 -- `cursor` is `cursor`: what is known at each return settles the tests of the definition.
-use Rattle.controller.specs.Transfers.{cursor}
+use Rattle.controller.specs.Transfer.{cursor}
 use Rattle.notation.proofs.Cases.{cases}
 use Rattle.controller.proofs.record.Controller.cursor.Statement.{statement}
 use Rattle.controller.proofs.record.Controller.cursor.Tie as tie

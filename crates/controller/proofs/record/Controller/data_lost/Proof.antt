@@ -2,7 +2,7 @@
 use mathlib.Core.List.{[], _∷_}
 use borrow.Author.Needs.{needs}
 use Rattle.control.proofs.Turning.{at-turns}
-use Rattle.controller.specs.Conditions.{dataLost}
+use Rattle.controller.specs.Condition.{dataLost}
 use Rattle.notation.proofs.Cases.{cases}
 use Rattle.controller.proofs.record.Controller.data_lost.Statement.{statement}
 use Rattle.controller.proofs.record.Controller.data_lost.Tie as tie

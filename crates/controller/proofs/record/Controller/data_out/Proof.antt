@@ -2,7 +2,7 @@
 use mathlib.Core.Path.{sym, _∙_}
 use native.Mathlib.Omega.{arith}
 use borrow.Author.Needs.{needs}
-use Rattle.controller.specs.Transfers.{dataOut}
+use Rattle.controller.specs.Transfer.{dataOut}
 use Rattle.notation.proofs.Cases.{cases}
 use Rattle.controller.proofs.Soundness.{cursor-below}
 use Rattle.controller.proofs.record.Controller.data_out.Statement.{statement}

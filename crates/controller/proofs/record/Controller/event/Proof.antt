@@ -1,7 +1,7 @@
 -- `event` is `eventOf`: what is known at each return settles the tests of the definition.
 use mathlib.Core.Path.{sym, _∙_}
 use borrow.Author.Needs.{needs}
-use Rattle.controller.specs.Events.{eventOf}
+use Rattle.controller.specs.Event.{eventOf}
 use Rattle.notation.proofs.Cases.{cases}
 use Rattle.controller.proofs.record.Controller.event.Statement.{statement}
 use Rattle.controller.proofs.record.Controller.event.Tie as tie

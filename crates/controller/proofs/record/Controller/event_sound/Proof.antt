@@ -2,7 +2,7 @@
 use mathlib.Core.Path.{_∙_}
 use borrow.Author.Needs.{needs}
 use borrow.Author.Tests.{ne-eqb}
-use Rattle.controller.specs.Events.{eventSound}
+use Rattle.controller.specs.Event.{eventSound}
 use Rattle.notation.proofs.Cases.{cases}
 use Rattle.notation.specs.Choice.{if_then_else_}
 use Rattle.controller.proofs.record.Controller.event_sound.Statement.{statement}

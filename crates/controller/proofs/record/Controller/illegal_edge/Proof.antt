@@ -2,7 +2,7 @@
 use mathlib.Core.List.{[], _∷_}
 use borrow.Author.Needs.{needs}
 use Rattle.control.proofs.Turning.{at-turns}
-use Rattle.controller.specs.Conditions.{illegalEdge}
+use Rattle.controller.specs.Condition.{illegalEdge}
 use Rattle.notation.proofs.Cases.{cases}
 use Rattle.controller.proofs.record.Controller.illegal_edge.Statement.{statement}
 use Rattle.controller.proofs.record.Controller.illegal_edge.Tie as tie

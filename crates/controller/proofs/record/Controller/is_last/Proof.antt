@@ -1,6 +1,6 @@
 -- `is_last` is `isLast`: what is known at each return settles the tests of the definition.
 use borrow.Author.Needs.{needs}
-use Rattle.controller.specs.Transfers.{isLast}
+use Rattle.controller.specs.Transfer.{isLast}
 use Rattle.notation.proofs.Cases.{cases}
 use Rattle.controller.proofs.record.Controller.is_last.Statement.{statement}
 use Rattle.controller.proofs.record.Controller.is_last.Tie as tie

@@ -2,7 +2,7 @@
 use mathlib.Core.List.{[], _∷_}
 use borrow.Author.Needs.{needs}
 use Rattle.control.proofs.Turning.{at-turn, at-turns}
-use Rattle.controller.specs.Conditions.{otherStart}
+use Rattle.controller.specs.Condition.{otherStart}
 use Rattle.notation.proofs.Cases.{cases}
 use Rattle.controller.proofs.record.Controller.other_start.Statement.{statement}
 use Rattle.controller.proofs.record.Controller.other_start.Tie as tie

@@ -1,7 +1,7 @@
 -- `outbid` is `outbid`: what is known at each return settles the tests of the definition.
 use mathlib.Core.Path.{_∙_}
 use borrow.Author.Needs.{needs}
-use Rattle.controller.specs.Conditions.{outbid}
+use Rattle.controller.specs.Condition.{outbid}
 use Rattle.controller.proofs.record.Controller.outbid.Statement.{statement}
 use Rattle.controller.proofs.record.Controller.outbid.Tie as tie
 

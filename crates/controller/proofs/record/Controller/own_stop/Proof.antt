@@ -2,7 +2,7 @@
 use mathlib.Core.List.{[], _∷_}
 use borrow.Author.Needs.{needs}
 use Rattle.control.proofs.Turning.{at-turn, at-turns}
-use Rattle.controller.specs.Conditions.{ownStop}
+use Rattle.controller.specs.Condition.{ownStop}
 use Rattle.notation.proofs.Cases.{cases}
 use Rattle.controller.proofs.record.Controller.own_stop.Statement.{statement}
 use Rattle.controller.proofs.record.Controller.own_stop.Tie as tie

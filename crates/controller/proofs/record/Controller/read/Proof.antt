@@ -1,7 +1,7 @@
 -- `read` is `readOf`: what is known at each return settles the tests of the definition.
 use mathlib.Core.Path.{sym, _∙_}
 use borrow.Author.Needs.{needs}
-use Rattle.controller.specs.Accesses.{readOf}
+use Rattle.controller.specs.Access.{readOf}
 use Rattle.notation.proofs.Cases.{cases}
 use Rattle.controller.proofs.record.Controller.read.Statement.{statement}
 use Rattle.controller.proofs.record.Controller.read.Tie as tie

@@ -1,7 +1,7 @@
 -- `received` is `received`: what is known at each return settles the tests of the definition.
 use native.Mathlib.Omega.{arith}
 use borrow.Author.Needs.{needs}
-use Rattle.controller.specs.Transfers.{received}
+use Rattle.controller.specs.Transfer.{received}
 use Rattle.controller.proofs.Soundness.{cursor-below}
 use Rattle.controller.proofs.record.Controller.received.Statement.{statement}
 use Rattle.controller.proofs.record.Controller.received.Tie as tie

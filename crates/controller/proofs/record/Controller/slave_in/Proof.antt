@@ -1,7 +1,7 @@
 -- `slave_in` is `slaveIn`: what is known at each return settles the tests of the definition.
 use mathlib.Core.Path.{_∙_}
 use borrow.Author.Needs.{needs}
-use Rattle.controller.specs.Transfers.{slaveIn}
+use Rattle.controller.specs.Transfer.{slaveIn}
 use Rattle.controller.proofs.record.Controller.slave_in.Statement.{statement}
 use Rattle.controller.proofs.record.Controller.slave_in.Tie as tie
 

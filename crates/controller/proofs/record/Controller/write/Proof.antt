@@ -1,7 +1,7 @@
 -- `write` is `writeOf`: what is known at each return settles the tests of the definition.
 use mathlib.Core.Path.{sym, _∙_}
 use borrow.Author.Needs.{needs}
-use Rattle.controller.specs.Accesses.{writeOf}
+use Rattle.controller.specs.Access.{writeOf}
 use Rattle.notation.proofs.Cases.{cases}
 use Rattle.controller.proofs.record.Controller.write.Statement.{statement}
 use Rattle.controller.proofs.record.Controller.write.Tie as tie

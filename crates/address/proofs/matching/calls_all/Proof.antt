@@ -1,8 +1,8 @@
 -- `calls_all` is `callsAll`: what is known at each return settles the tests of the definition.
 use Rattle.address.specs.Matching.{callsAll}
 use Rattle.notation.proofs.Cases.{cases}
-use Rattle.address.proofs.calls_all.Statement.{statement}
-use Rattle.address.proofs.calls_all.Tie as tie
+use Rattle.address.proofs.matching.calls_all.Statement.{statement}
+use Rattle.address.proofs.matching.calls_all.Tie as tie
 
 returns : tie.Need-returns
 unfolding callsAll

@@ -1,8 +1,8 @@
 -- `direction` is `directionOf`: what is known at each return settles the tests of the definition.
 use Rattle.address.specs.Number.{directionOf}
 use Rattle.notation.proofs.Cases.{cases}
-use Rattle.address.proofs.AddressByte.direction.Statement.{statement}
-use Rattle.address.proofs.AddressByte.direction.Tie as tie
+use Rattle.address.proofs.number.AddressByte.direction.Statement.{statement}
+use Rattle.address.proofs.number.AddressByte.direction.Tie as tie
 
 returns : tie.Need-returns
 unfolding directionOf

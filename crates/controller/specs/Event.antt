@@ -2,11 +2,11 @@
 use mathlib.Core.Bool.{Bool, false}
 use Prim.Native.Nat.{ℕ}
 use lib.Dec.{eqb, ltb}
-use Rattle.controller.specs.Conditions.{ownStart, otherStart, otherStop, ownStop, addressByte, addressLost, dataLost, illegalEdge, dataHeld, clockHeld, idle}
+use Rattle.controller.specs.Condition.{ownStart, otherStart, otherStop, ownStop, addressByte, addressLost, dataLost, illegalEdge, dataHeld, clockHeld, idle}
 use Rattle.controller.specs.Record.{sound}
 use Rattle.controller.specs.Reply.{Outcome, refuses, accepts}
 use Rattle.controller.specs.Reset.{reset}
-use Rattle.controller.specs.Transfers.{byteOut, byteIn}
+use Rattle.controller.specs.Transfer.{byteOut, byteIn}
 use Rattle.controller.specs.declared.record.Controller.{Controller}
 use Rattle.notation.specs.Choice.{if_then_else_, _or_}
 
@@ -34,7 +34,7 @@ eventSound c number argument =
     else if eqb number 12 then clockHeld c
     else idle c
 
--- refusal 1: "event not 1..14"; 14: "Reset pin: always, as reset"
+-- refusal 1: "event not 1..14"; 14: "Reset pin: always, as reset"; refusal 10: "the record isn't sound, save for event 14"
 unfoldable pub eventOf : Controller → ℕ → ℕ → Outcome
 eventOf c number argument =
     if eqb number 0 or ltb 14 number then refuses c 1

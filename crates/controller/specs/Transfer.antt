@@ -3,7 +3,10 @@ use mathlib.Core.Bool.{Bool, true, not}
 use mathlib.Core.List.{[], _∷_}
 use Prim.Native.Nat.{ℕ, _+_, _%_}
 use lib.Dec.{eqb}
-use Rattle.control.specs.Turns.{address, send, receive, slaveReceive, slaveSend, waits, calledOf}
+use Rattle.address.specs.Number.{directionOf}
+use Rattle.address.specs.declared.number.Direction.the-variants.{Write, Read}
+use Rattle.address.specs.declared.number.Direction.{Direction}
+use Rattle.control.specs.Turn.{address, send, receive, slaveReceive, slaveSend, waits, calledOf}
 use Rattle.control.specs.declared.turn.Called.the-variants.{Own, General}
 use Rattle.control.specs.declared.turn.Called.{Called}
 use Rattle.controller.specs.Record.{place, byteCount, lastByte, withPlace, withMoved}
@@ -15,7 +18,7 @@ use Rattle.notation.specs.Choice.{if_then_else_}
 unfoldable pub cursor : Controller → ℕ
 cursor c = if c .control .mode then c .moved else 0
 
--- this byte ends the move: always in Byte mode, in Buffered mode "when moved = BC"
+-- this byte ends the move: always in Byte mode, in Buffered mode "when moved = BC", this byte counted
 unfoldable pub isLast : Controller → Bool
 isLast c = if c .control .mode then eqb (c .moved + 1) (byteCount c) else true
 
@@ -24,22 +27,24 @@ counted c = withMoved c (c .moved + 1)
 
 -- a data byte out: "Sending ends at the first NACK or when moved = BC .. Before the end no status is set"
 unfoldable pub dataOut : Controller → ℕ → ℕ → ℕ → Outcome
-dataOut c nack refusedAt doneAt =
-    if eqb nack 1 then gives (counted c) refusedAt (place c (cursor c))
+dataOut c nack nackAt doneAt =
+    if eqb nack 1 then gives (counted c) nackAt (place c (cursor c))
     else if isLast c then gives (counted c) doneAt (place c (cursor c))
     else accepts (counted c) (place c (cursor c))
 
 -- the address byte out, place 0: "18h/20h, for R 1 40h/48h"
-unfoldable pub addressStatus : ℕ → ℕ → ℕ
-addressStatus byte nack =
-    if eqb (byte % 2) 1
-    then (if eqb nack 1 then 0x48 else 0x40)
-    else (if eqb nack 1 then 0x20 else 0x18)
+unfoldable pub addressStatus : Direction → ℕ → ℕ
+addressStatus Write nack = if eqb nack 1 then 0x20 else 0x18
+addressStatus Read nack = if eqb nack 1 then 0x48 else 0x40
+
+-- R of the address byte, which is place 0
+abbrev pub sentDirection : Controller → Direction
+sentDirection c = directionOf (record { 0 = place c 0 })
 
 -- 6. "Byte out, argument 0 ACK, 1 NACK; the answer gives the byte." SlaveSend: "ACK gives C8h with AA 0, else B8h"
 unfoldable pub byteOut : Controller → ℕ → Outcome
 byteOut c nack =
-    if waits (c .turn) (address ∷ []) then gives c (addressStatus (place c 0) nack) (place c 0)
+    if waits (c .turn) (address ∷ []) then gives c (addressStatus (sentDirection c) nack) (place c 0)
     else if waits (c .turn) (send ∷ []) then dataOut c nack 0x30 0x28
     else if waits (c .turn) (slaveSend ∷ []) then dataOut c nack 0xC0 (if c .control .aa then 0xB8 else 0xC8)
     else refuses c 8

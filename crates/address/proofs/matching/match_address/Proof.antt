@@ -2,8 +2,8 @@
 use borrow.Author.Needs.{needs}
 use Rattle.address.specs.Matching.{matchOf}
 use Rattle.notation.proofs.Cases.{calls}
-use Rattle.address.proofs.match_address.Statement.{statement}
-use Rattle.address.proofs.match_address.Tie as tie
+use Rattle.address.proofs.matching.match_address.Statement.{statement}
+use Rattle.address.proofs.matching.match_address.Tie as tie
 
 returns : tie.Need-returns
 unfolding matchOf

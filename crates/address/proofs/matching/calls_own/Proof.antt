@@ -2,8 +2,8 @@
 use borrow.Author.Needs.{needs}
 use Rattle.address.specs.Matching.{callsOwn}
 use Rattle.notation.proofs.Cases.{cases}
-use Rattle.address.proofs.calls_own.Statement.{statement}
-use Rattle.address.proofs.calls_own.Tie as tie
+use Rattle.address.proofs.matching.calls_own.Statement.{statement}
+use Rattle.address.proofs.matching.calls_own.Tie as tie
 
 returns : tie.Need-returns
 unfolding callsOwn

@@ -1,8 +1,8 @@
 -- `bit` is `bitOf`: what is known at each return settles the tests of the definition.
 use borrow.Author.Needs.{needs}
 use Rattle.address.specs.Number.{bitOf}
-use Rattle.address.proofs.Direction.bit.Statement.{statement}
-use Rattle.address.proofs.Direction.bit.Tie as tie
+use Rattle.address.proofs.number.Direction.bit.Statement.{statement}
+use Rattle.address.proofs.number.Direction.bit.Tie as tie
 
 returns : tie.Need-returns
 unfolding bitOf

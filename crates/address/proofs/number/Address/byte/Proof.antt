@@ -4,10 +4,10 @@ use native.Mathlib.Omega.{arith}
 use borrow.Author.Needs.{needs}
 use lib.Dec.{lit≤}
 use Rattle.address.specs.Number.{bitOf, byteOf}
-use Rattle.address.specs.declared.Direction.the-variants.{Write, Read}
-use Rattle.address.specs.declared.Direction.{Direction}
-use Rattle.address.proofs.Address.byte.Statement.{statement}
-use Rattle.address.proofs.Address.byte.Tie as tie
+use Rattle.address.specs.declared.number.Direction.the-variants.{Write, Read}
+use Rattle.address.specs.declared.number.Direction.{Direction}
+use Rattle.address.proofs.number.Address.byte.Statement.{statement}
+use Rattle.address.proofs.number.Address.byte.Tie as tie
 
 bit-small : (d : Direction) → bitOf d ≤ 1
 unfolding bitOf

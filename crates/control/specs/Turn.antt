@@ -88,7 +88,7 @@ statusOf SlaveSend = 0xF8
 statusOf Stopping = 0xF8
 statusOf Restarting = 0xF8
 
--- at A0h, the bus condition that came
+-- at A0h, the bus condition that came; in every other turn `Stop`, which nothing reads
 unfoldable pub edgeOf : Turn → Edge
 edgeOf Off = Stop
 edgeOf (Host status edge) = edge
@@ -103,7 +103,7 @@ edgeOf SlaveSend = Stop
 edgeOf Stopping = Stop
 edgeOf Restarting = Stop
 
--- of SlaveReceive, the address called
+-- of SlaveReceive, the address called; in every other turn `Own`, which nothing reads
 unfoldable pub calledOf : Turn → Called
 calledOf Off = Own
 calledOf (Host status edge) = Own
