@@ -7,7 +7,7 @@ use Prim.Native.Nat.{ℕ}
 use denote.Enum.Declared.{tagOf}
 use lib.Dec.{T}
 use types.Run.{OneOf}
-use Rattle.control.specs.Turn.{host, kind, statusOf}
+use Rattle.control.specs.Turn.{off, host, free, busy, listen, address, send, receive, slaveReceive, slaveSend, stopping, restarting, kind, statusOf}
 use Rattle.control.specs.declared.turn.Turn.the-variants.{Off, Host, Free, Busy, Listen, Address, Send, Receive, SlaveReceive, SlaveSend, Stopping, Restarting}
 use Rattle.control.specs.declared.turn.Turn.{Turn}
 use Rattle.notation.proofs.Among.{has, every, same, among-has, keys-in}
@@ -28,6 +28,14 @@ tag-kind (SlaveReceive w) = refl
 tag-kind SlaveSend = refl
 tag-kind Stopping = refl
 tag-kind Restarting = refl
+
+-- every turn but these: what a default arm leaves
+abbrev pub but : List ℕ → List ℕ → List ℕ
+but ks [] = []
+but ks (t ∷ ts) = elim (has ks t) [ true ↦ but ks ts | false ↦ t ∷ but ks ts ]
+
+abbrev pub except : List ℕ → List ℕ
+except ks = but ks (off ∷ host ∷ free ∷ busy ∷ listen ∷ address ∷ send ∷ receive ∷ slaveReceive ∷ slaveSend ∷ stopping ∷ restarting ∷ [])
 
 -- the arm of one turn, whose number is k
 pub at-turn : (k : ℕ) (t : Turn) → tagOf the-type t ≡ k → (v : Bool) (ls : List ℕ) → has ls k ≡ v → among (kind t) ls ≡ v

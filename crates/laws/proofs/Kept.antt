@@ -5,7 +5,7 @@ use mathlib.Core.List.{[], _∷_}
 use mathlib.Core.Path.{_≡_, refl, _∙_}
 use Prim.Native.Nat.{ℕ, _≤_}
 use lib.Dec.{T, lit≤}
-use Rattle.control.specs.Turn.{host, dataTurns, kind, statusOf}
+use Rattle.control.specs.Turn.{off, host, free, busy, listen, dataTurns, kind, statusOf}
 use Rattle.control.specs.declared.turn.Edge.{Edge}
 use Rattle.control.specs.declared.turn.Turn.the-variants as turn
 use Rattle.control.specs.declared.turn.Turn.{Turn}
@@ -13,7 +13,7 @@ use Rattle.controller.proofs.Soundness.{parts, whole}
 use Rattle.controller.specs.Record.{givenStatuses, hostSound, moveSound, sound, withTurn, withHand}
 use Rattle.controller.specs.Reply.{Outcome, refuses, accepts, waitsFor, interruptsAt}
 use Rattle.controller.specs.declared.record.Controller.{Controller}
-use Rattle.notation.proofs.Among.{has, among-has}
+use Rattle.notation.proofs.Among.{is-true, has, among-has}
 use Rattle.notation.proofs.Cases.{if-true, if-false, split}
 use Rattle.notation.specs.Choice.{if_then_else_, among}
 
@@ -56,13 +56,9 @@ host-sound c status edge r g e =
       hand = r .hand;
       moved = r .moved;
       speed = r .speed;
-      host = rw e (if-true (among 1 (1 ∷ [])) _ _ (among-has 1 (1 ∷ [])) ∙ among-has status givenStatuses ∙ is-true _ g);
-      move = rw e (if-false (among 1 dataTurns) _ _ (among-has 1 dataTurns));
+      host = rw e (if-true (among host (host ∷ [])) _ _ (among-has host (host ∷ [])) ∙ among-has status givenStatuses ∙ is-true _ g);
+      move = rw e (if-false (among host dataTurns) _ _ (among-has host dataTurns));
     })
-  where
-    is-true : (b : Bool) → T b → b ≡ true
-    is-true true t = refl
-    is-true false t = absurd t
 
 -- the ends of the rules
 pub refused : (c : Controller) (n : ℕ) → sound c ≡ true → Kept (refuses c n)
@@ -91,18 +87,18 @@ either b x y p q = split Kept b x y (λ e. p) (λ e. q)
 
 pub free-quiet : Quiet turn.Free
 unfolding kind
-free-quiet = (among-has 2 (1 ∷ []), among-has 2 dataTurns)
+free-quiet = (among-has free (host ∷ []), among-has free dataTurns)
 
 pub busy-quiet : Quiet turn.Busy
 unfolding kind
-busy-quiet = (among-has 3 (1 ∷ []), among-has 3 dataTurns)
+busy-quiet = (among-has busy (host ∷ []), among-has busy dataTurns)
 
 pub listen-quiet : Quiet turn.Listen
 unfolding kind
-listen-quiet = (among-has 4 (1 ∷ []), among-has 4 dataTurns)
+listen-quiet = (among-has listen (host ∷ []), among-has listen dataTurns)
 
 pub off-quiet : Quiet turn.Off
 unfolding kind
-off-quiet = (among-has 0 (1 ∷ []), among-has 0 dataTurns)
+off-quiet = (among-has off (host ∷ []), among-has off dataTurns)
 
 pub ruleset ends = (refused, accepted, waiting, interrupted, either, free-quiet, busy-quiet, listen-quiet, off-quiet, ranges, tt)

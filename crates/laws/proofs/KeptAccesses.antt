@@ -7,7 +7,7 @@ use native.Mathlib.Omega.{arith}
 use borrow.Author.Tests.{eqb-false, ltb-false, le-leb, lt-ltb}
 use lib.Dec.{eqb, leb, ltb, lit≤}
 use Rattle.control.specs.Flags.{flagsOf}
-use Rattle.control.specs.Turn.{off, host, wireTurns, dataTurns, kind, statusOf, edgeOf}
+use Rattle.control.specs.Turn.{off, host, free, busy, listen, address, send, receive, slaveReceive, slaveSend, stopping, restarting, wireTurns, dataTurns, kind, statusOf, edgeOf}
 use Rattle.control.specs.Writing.{ends as endsAt, afterEdge, atStatus, response}
 use Rattle.control.specs.declared.flags.Control.{Control}
 use Rattle.control.specs.declared.turn.Edge.the-variants.{Stop, Start}
@@ -145,31 +145,31 @@ leads t h = record { clears = h }
 ends-clears : (k : Control) (r : Response) → Clears r → Clears (endsAt k r)
 unfolding endsAt kind
 ends-clears k r h =
-    choose (k .sto) _ _ (leads _ (among-has 10 (1 ∷ []))) (choose (k .sta) _ _ (leads _ (among-has 11 (1 ∷ []))) h)
+    choose (k .sto) _ _ (leads _ (among-has stopping (host ∷ []))) (choose (k .sta) _ _ (leads _ (among-has restarting (host ∷ []))) h)
 
 edge-clears : (e : Edge) → Clears (Next (afterEdge e))
 unfolding afterEdge kind
-edge-clears Stop = leads _ (among-has 2 (1 ∷ []))
-edge-clears Start = leads _ (among-has 4 (1 ∷ []))
+edge-clears Stop = leads _ (among-has free (host ∷ []))
+edge-clears Start = leads _ (among-has listen (host ∷ []))
 
 status-clears : (status : ℕ) (edge : Edge) (k : Control) → Clears (atStatus status edge k)
 unfolding atStatus kind
 status-clears status edge k =
-    choose _ _ _ (choose _ _ _ unlisted (leads _ (among-has 5 (1 ∷ []))))
-    (choose _ _ _ (ends-clears k _ (leads _ (among-has 6 (1 ∷ []))))
-    (choose _ _ _ (choose _ _ _ unlisted (leads _ (among-has 7 (1 ∷ []))))
+    choose _ _ _ (choose _ _ _ unlisted (leads _ (among-has address (host ∷ []))))
+    (choose _ _ _ (ends-clears k _ (leads _ (among-has send (host ∷ []))))
+    (choose _ _ _ (choose _ _ _ unlisted (leads _ (among-has receive (host ∷ []))))
     (choose _ _ _ (ends-clears k Unlisted unlisted)
-    (choose _ _ _ (leads _ (among-has 3 (1 ∷ [])))
-    (choose _ _ _ (leads _ (among-has 8 (1 ∷ [])))
-    (choose _ _ _ (leads _ (among-has 8 (1 ∷ [])))
-    (choose _ _ _ (leads _ (among-has 3 (1 ∷ [])))
+    (choose _ _ _ (leads _ (among-has busy (host ∷ [])))
+    (choose _ _ _ (leads _ (among-has slaveReceive (host ∷ [])))
+    (choose _ _ _ (leads _ (among-has slaveReceive (host ∷ [])))
+    (choose _ _ _ (leads _ (among-has busy (host ∷ [])))
     (choose _ _ _ (edge-clears edge)
-    (choose _ _ _ (leads _ (among-has 9 (1 ∷ []))) unlisted)))))))))
+    (choose _ _ _ (leads _ (among-has slaveSend (host ∷ []))) unlisted)))))))))
 
 pub response-clears : (t : Turn) (k : Control) → Clears (response t k)
 unfolding response kind
 response-clears t k =
-    split Clears (among (kind t) (off ∷ [])) _ _ (λ e. leads _ (among-has 2 (1 ∷ [])))
+    split Clears (among (kind t) (off ∷ [])) _ _ (λ e. leads _ (among-has free (host ∷ [])))
     (λ e. split Clears (among (kind t) (host ∷ [])) _ _ (λ e. status-clears (statusOf t) (edgeOf t) k) (λ e. leads t e))
 
 enabling : (c : Controller) (k : Control) (r : Response) → sound c ≡ true → Clears r → Kept (enabled c k r)

@@ -13,7 +13,7 @@ use Rattle.controller.specs.Access.{indirectAt, barsRead, readSound, readOf}
 use Rattle.controller.specs.Record.{interrupts, givenStatuses, hostSound, sound}
 use Rattle.controller.specs.Reply.{accepts}
 use Rattle.controller.specs.declared.record.Controller.{Controller}
-use Rattle.notation.proofs.Among.{same, has, among-has}
+use Rattle.notation.proofs.Among.{same, is-same, has, among-has}
 use Rattle.notation.proofs.Cases.{if-true, and-no-right}
 use Rattle.notation.specs.Choice.{if_then_else_, _and_, among}
 
@@ -36,12 +36,6 @@ at-each f t false = second (f true) t
 abbrev w : Bool → ℕ → ℕ
 w true n = n
 w false n = 0
-
-is-same : (a b : Bool) → T (same a b) → a ≡ b
-is-same true true t = refl
-is-same true false t = absurd t
-is-same false true t = absurd t
-is-same false false t = refl
 
 -- bit 3 of I2CCON's byte is SI, whatever the other flags: a test over the 64 bytes
 abbrev bit3 : Bool → Bool → Bool → Bool → Bool → Bool → Bool

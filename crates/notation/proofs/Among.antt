@@ -24,13 +24,13 @@ abbrev pub same : Bool → Bool → Bool
 same true v = v
 same false v = not v
 
-is-same : (a b : Bool) → T (same a b) → a ≡ b
+pub is-same : (a b : Bool) → T (same a b) → a ≡ b
 is-same true true t = refl
 is-same true false t = absurd t
 is-same false true t = absurd t
 is-same false false t = refl
 
-is-true : (b : Bool) → T b → b ≡ true
+pub is-true : (b : Bool) → T b → b ≡ true
 is-true true t = refl
 is-true false t = absurd t
 

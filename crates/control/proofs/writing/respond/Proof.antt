@@ -2,17 +2,17 @@
 use mathlib.Core.List.{[], _∷_}
 use mathlib.Core.Path.{_∙_}
 use borrow.Author.Needs.{needs}
-use Rattle.control.specs.Turn.{kind, statusOf, edgeOf}
+use Rattle.control.specs.Turn.{kind, statusOf, edgeOf, off, host}
 use Rattle.control.specs.Writing.{response}
 use Rattle.notation.proofs.Cases.{cases}
 use Rattle.notation.specs.Choice.{among, if_then_else_}
-use Rattle.control.proofs.Turning.{at-turn, at-turns}
+use Rattle.control.proofs.Turning.{at-turn, at-turns, except}
 use Rattle.control.proofs.writing.respond.Statement.{statement}
 use Rattle.control.proofs.writing.respond.Tie as tie
 
 returns : tie.Need-returns
 unfolding response
-returns c = search (at-turn 0 (c .before .before .args .turn) (c .before .match .keys1), cases)
+returns c = search (at-turn off (c .before .before .args .turn) (c .before .match .keys1), cases)
 
 returns-2 : tie.Need-returns-2
 unfolding response kind statusOf edgeOf among if_then_else_
@@ -20,7 +20,7 @@ returns-2 c = c .at-status .ensures ∙ rw (c .before .before .turn .given .1)
 
 returns-3 : tie.Need-returns-3
 unfolding response
-returns-3 c = search (at-turns (2 ∷ 3 ∷ 4 ∷ 5 ∷ 6 ∷ 7 ∷ 8 ∷ 9 ∷ 10 ∷ 11 ∷ []) (c .before .args .turn) (c .match .keys3), cases)
+returns-3 c = search (at-turns (except (off ∷ host ∷ [])) (c .before .args .turn) (c .match .keys3), cases)
 
 pub respond-spec : {M : Type 1} → statement M
 respond-spec =

@@ -2,7 +2,8 @@
 use mathlib.Core.List.{[], _∷_}
 use mathlib.Core.Path.{_∙_}
 use borrow.Author.Needs.{needs}
-use Rattle.control.proofs.Turning.{at-turn, at-turns}
+use Rattle.control.proofs.Turning.{at-turn, at-turns, except}
+use Rattle.control.specs.Turn.{listen}
 use Rattle.controller.specs.Condition.{addressByte}
 use Rattle.notation.proofs.Cases.{cases}
 use Rattle.controller.proofs.record.Controller.address_byte.Statement.{statement}
@@ -10,11 +11,11 @@ use Rattle.controller.proofs.record.Controller.address_byte.Tie as tie
 
 returns : tie.Need-returns
 unfolding addressByte
-returns c = c .addressed .ensures ∙ rw (c .before .match-byte .ensures) (search (at-turn 4 (c .before .before .before .before .args .self .turn) (c .before .before .before .match .keys1), cases))
+returns c = c .addressed .ensures ∙ rw (c .before .match-byte .ensures) (search (at-turn listen (c .before .before .before .before .args .self .turn) (c .before .before .before .match .keys1), cases))
 
 returns-2 : tie.Need-returns-2
 unfolding addressByte
-returns-2 c = search (at-turns (0 ∷ 1 ∷ 2 ∷ 3 ∷ 5 ∷ 6 ∷ 7 ∷ 8 ∷ 9 ∷ 10 ∷ 11 ∷ []) (c .before .before .args .self .turn) (c .before .match .keys2), cases)
+returns-2 c = search (at-turns (except (listen ∷ [])) (c .before .before .args .self .turn) (c .before .match .keys2), cases)
 
 pub address-byte-spec : {M : Type 1} → statement M
 address-byte-spec =

@@ -2,7 +2,8 @@
 use mathlib.Core.List.{[], _∷_}
 use mathlib.Core.Path.{_∙_}
 use borrow.Author.Needs.{needs}
-use Rattle.control.proofs.Turning.{at-turn, at-turns}
+use Rattle.control.proofs.Turning.{at-turn, at-turns, except}
+use Rattle.control.specs.Turn.{address}
 use Rattle.controller.specs.Condition.{addressLost}
 use Rattle.notation.proofs.Cases.{cases}
 use Rattle.controller.proofs.record.Controller.address_lost.Statement.{statement}
@@ -10,15 +11,15 @@ use Rattle.controller.proofs.record.Controller.address_lost.Tie as tie
 
 returns : tie.Need-returns
 unfolding addressLost
-returns c = c .outbid .ensures ∙ rw (c .before .match-byte .ensures) (search (at-turn 5 (c .before .before .before .before .before .before .args .self .turn) (c .before .before .before .before .before .match .keys1), cases))
+returns c = c .outbid .ensures ∙ rw (c .before .match-byte .ensures) (search (at-turn address (c .before .before .before .before .before .before .args .self .turn) (c .before .before .before .before .before .match .keys1), cases))
 
 returns-2 : tie.Need-returns-2
 unfolding addressLost
-returns-2 c = search (at-turn 5 (c .before .before .before .before .before .args .self .turn) (c .before .before .before .before .match .keys1), cases)
+returns-2 c = search (at-turn address (c .before .before .before .before .before .args .self .turn) (c .before .before .before .before .match .keys1), cases)
 
 returns-3 : tie.Need-returns-3
 unfolding addressLost
-returns-3 c = search (at-turns (0 ∷ 1 ∷ 2 ∷ 3 ∷ 4 ∷ 6 ∷ 7 ∷ 8 ∷ 9 ∷ 10 ∷ 11 ∷ []) (c .before .before .args .self .turn) (c .before .match .keys2), cases)
+returns-3 c = search (at-turns (except (address ∷ [])) (c .before .before .args .self .turn) (c .before .match .keys2), cases)
 
 pub address-lost-spec : {M : Type 1} → statement M
 address-lost-spec =

@@ -3,8 +3,8 @@ use mathlib.Core.Bool.{true}
 use mathlib.Core.List.{[], _∷_}
 use mathlib.Core.Path.{_∙_, refl}
 use borrow.Author.Needs.{needs}
-use Rattle.control.proofs.Turning.{at-turn, at-turns}
-use Rattle.control.specs.Turn.{dataTurns, kind, calledOf}
+use Rattle.control.proofs.Turning.{at-turn, at-turns, except}
+use Rattle.control.specs.Turn.{dataTurns, kind, calledOf, receive, slaveReceive}
 use Rattle.controller.specs.Transfer.{byteIn}
 use Rattle.notation.proofs.Cases.{cases}
 use Rattle.notation.specs.Choice.{among, if_then_else_}
@@ -13,14 +13,14 @@ use Rattle.controller.proofs.record.Controller.byte_in.Statement.{state
 use Rattle.controller.proofs.record.Controller.byte_in.Tie as tie
 
 data-in-requires : tie.Need-data-in-requires
-data-in-requires c κs = moving (c .before .before .args .self) (c .before .before .pre) (at-turn 7 (c .before .before .args .self .turn) (c .before .match .keys1) true dataTurns refl)
+data-in-requires c κs = moving (c .before .before .args .self) (c .before .before .pre) (at-turn receive (c .before .before .args .self .turn) (c .before .match .keys1) true dataTurns refl)
 
 slave-in-requires : tie.Need-slave-in-requires
-slave-in-requires c κs = moving (c .before .before .before .args .self) (c .before .before .before .pre) (at-turn 8 (c .before .before .before .args .self .turn) (c .before .before .match .keys2) true dataTurns refl)
+slave-in-requires c κs = moving (c .before .before .before .args .self) (c .before .before .before .pre) (at-turn slaveReceive (c .before .before .before .args .self .turn) (c .before .before .match .keys2) true dataTurns refl)
 
 returns : tie.Need-returns
 unfolding byteIn
-returns c = search (at-turn 7 (c .before .before .before .args .self .turn) (c .before .before .match .keys1), cases)
+returns c = search (at-turn receive (c .before .before .before .args .self .turn) (c .before .before .match .keys1), cases)
 
 returns-2 : tie.Need-returns-2
 unfolding byteIn kind calledOf among if_then_else_
@@ -28,7 +28,7 @@ returns-2 c = c .slave-in .ensures ∙ rw (c .before .before .turn .given .1)
 
 returns-3 : tie.Need-returns-3
 unfolding byteIn
-returns-3 c = search (at-turns (0 ∷ 1 ∷ 2 ∷ 3 ∷ 4 ∷ 5 ∷ 6 ∷ 9 ∷ 10 ∷ 11 ∷ []) (c .before .before .args .self .turn) (c .before .match .keys3), cases)
+returns-3 c = search (at-turns (except (receive ∷ slaveReceive ∷ [])) (c .before .before .args .self .turn) (c .before .match .keys3), cases)
 
 pub byte-in-spec : {M : Type 1} → statement M
 byte-in-spec =

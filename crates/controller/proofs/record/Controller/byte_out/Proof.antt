@@ -3,8 +3,8 @@ use mathlib.Core.Bool.{true}
 use mathlib.Core.List.{[], _∷_}
 use mathlib.Core.Path.{refl, _∙_}
 use borrow.Author.Needs.{needs}
-use Rattle.control.proofs.Turning.{at-turn, at-turns}
-use Rattle.control.specs.Turn.{dataTurns}
+use Rattle.control.proofs.Turning.{at-turn, at-turns, except}
+use Rattle.control.specs.Turn.{dataTurns, address, send, slaveSend}
 use Rattle.controller.specs.Transfer.{byteOut}
 use Rattle.notation.proofs.Cases.{cases}
 use Rattle.controller.proofs.Soundness.{moving}
@@ -12,33 +12,33 @@ use Rattle.controller.proofs.record.Controller.byte_out.Statement.{stat
 use Rattle.controller.proofs.record.Controller.byte_out.Tie as tie
 
 data-out-requires : tie.Need-data-out-requires
-data-out-requires c κs = moving (c .before .before .args .self) (c .before .before .pre) (at-turn 6 (c .before .before .args .self .turn) (c .before .match .keys2) true dataTurns refl)
+data-out-requires c κs = moving (c .before .before .args .self) (c .before .before .pre) (at-turn send (c .before .before .args .self .turn) (c .before .match .keys2) true dataTurns refl)
 
 data-out-requires-2 : tie.Need-data-out-requires-2
-data-out-requires-2 c κs = moving (c .before .before .before .args .self) (c .before .before .before .pre) (at-turn 9 (c .before .before .before .args .self .turn) (c .before .before .match .keys3) true dataTurns refl)
+data-out-requires-2 c κs = moving (c .before .before .before .args .self) (c .before .before .before .pre) (at-turn slaveSend (c .before .before .before .args .self .turn) (c .before .before .match .keys3) true dataTurns refl)
 
 data-out-requires-3 : tie.Need-data-out-requires-3
-data-out-requires-3 c κs = moving (c .before .before .before .args .self) (c .before .before .before .pre) (at-turn 9 (c .before .before .before .args .self .turn) (c .before .before .match .keys3) true dataTurns refl)
+data-out-requires-3 c κs = moving (c .before .before .before .args .self) (c .before .before .before .pre) (at-turn slaveSend (c .before .before .before .args .self .turn) (c .before .before .match .keys3) true dataTurns refl)
 
 returns : tie.Need-returns
 unfolding byteOut
-returns c = c .give .ensures ∙ rw (c .before .address-status .ensures, c .before .before .direction .ensures) (search (at-turn 5 (c .before .before .before .before .before .before .args .self .turn) (c .before .before .before .before .before .match .keys1), cases))
+returns c = c .give .ensures ∙ rw (c .before .address-status .ensures, c .before .before .direction .ensures) (search (at-turn address (c .before .before .before .before .before .before .args .self .turn) (c .before .before .before .before .before .match .keys1), cases))
 
 returns-2 : tie.Need-returns-2
 unfolding byteOut
-returns-2 c = search (at-turn 6 (c .before .before .before .args .self .turn) (c .before .before .match .keys2), cases)
+returns-2 c = search (at-turn send (c .before .before .before .args .self .turn) (c .before .before .match .keys2), cases)
 
 returns-3 : tie.Need-returns-3
 unfolding byteOut
-returns-3 c = search (at-turn 9 (c .before .before .before .before .args .self .turn) (c .before .before .before .match .keys3), cases)
+returns-3 c = search (at-turn slaveSend (c .before .before .before .before .args .self .turn) (c .before .before .before .match .keys3), cases)
 
 returns-4 : tie.Need-returns-4
 unfolding byteOut
-returns-4 c = search (at-turn 9 (c .before .before .before .before .args .self .turn) (c .before .before .before .match .keys3), cases)
+returns-4 c = search (at-turn slaveSend (c .before .before .before .before .args .self .turn) (c .before .before .before .match .keys3), cases)
 
 returns-5 : tie.Need-returns-5
 unfolding byteOut
-returns-5 c = search (at-turns (0 ∷ 1 ∷ 2 ∷ 3 ∷ 4 ∷ 7 ∷ 8 ∷ 10 ∷ 11 ∷ []) (c .before .before .args .self .turn) (c .before .match .keys4), cases)
+returns-5 c = search (at-turns (except (address ∷ send ∷ slaveSend ∷ [])) (c .before .before .args .self .turn) (c .before .match .keys4), cases)
 
 pub byte-out-spec : {M : Type 1} → statement M
 byte-out-spec =

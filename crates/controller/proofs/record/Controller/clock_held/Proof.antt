@@ -1,7 +1,8 @@
 -- `clock_held` is `clockHeld`: what is known at each return settles the tests of the definition.
 use mathlib.Core.List.{[], _∷_}
 use borrow.Author.Needs.{needs}
-use Rattle.control.proofs.Turning.{at-turns}
+use Rattle.control.proofs.Turning.{at-turns, except}
+use Rattle.control.specs.Turn.{off, host}
 use Rattle.controller.specs.Condition.{clockHeld}
 use Rattle.notation.proofs.Cases.{cases}
 use Rattle.controller.proofs.record.Controller.clock_held.Statement.{statement}
@@ -9,15 +10,15 @@ use Rattle.controller.proofs.record.Controller.clock_held.Tie as tie
 
 returns : tie.Need-returns
 unfolding clockHeld
-returns c = search (at-turns (0 ∷ 1 ∷ []) (c .before .before .args .self .turn) (c .before .match .keys1), cases)
+returns c = search (at-turns (off ∷ host ∷ []) (c .before .before .args .self .turn) (c .before .match .keys1), cases)
 
 returns-2 : tie.Need-returns-2
 unfolding clockHeld
-returns-2 c = search (at-turns (2 ∷ 3 ∷ 4 ∷ 5 ∷ 6 ∷ 7 ∷ 8 ∷ 9 ∷ 10 ∷ 11 ∷ []) (c .before .before .before .before .args .self .turn) (c .before .before .before .match .keys2), cases)
+returns-2 c = search (at-turns (except (off ∷ host ∷ [])) (c .before .before .before .before .args .self .turn) (c .before .before .before .match .keys2), cases)
 
 returns-3 : tie.Need-returns-3
 unfolding clockHeld
-returns-3 c = search (at-turns (2 ∷ 3 ∷ 4 ∷ 5 ∷ 6 ∷ 7 ∷ 8 ∷ 9 ∷ 10 ∷ 11 ∷ []) (c .before .before .before .before .args .self .turn) (c .before .before .before .match .keys2), cases)
+returns-3 c = search (at-turns (except (off ∷ host ∷ [])) (c .before .before .before .before .args .self .turn) (c .before .before .before .match .keys2), cases)
 
 pub clock-held-spec : {M : Type 1} → statement M
 clock-held-spec =

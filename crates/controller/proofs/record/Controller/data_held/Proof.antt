@@ -1,7 +1,8 @@
 -- `data_held` is `dataHeld`: what is known at each return settles the tests of the definition.
 use mathlib.Core.List.{[], _∷_}
 use borrow.Author.Needs.{needs}
-use Rattle.control.proofs.Turning.{at-turn, at-turns}
+use Rattle.control.proofs.Turning.{at-turn, at-turns, except}
+use Rattle.control.specs.Turn.{free, restarting}
 use Rattle.controller.specs.Condition.{dataHeld}
 use Rattle.notation.proofs.Cases.{cases}
 use Rattle.controller.proofs.record.Controller.data_held.Statement.{statement}
@@ -9,19 +10,19 @@ use Rattle.controller.proofs.record.Controller.data_held.Tie as tie
 
 returns : tie.Need-returns
 unfolding dataHeld
-returns c = search (at-turn 2 (c .before .before .before .before .args .self .turn) (c .before .before .before .match .keys1), cases)
+returns c = search (at-turn free (c .before .before .before .before .args .self .turn) (c .before .before .before .match .keys1), cases)
 
 returns-2 : tie.Need-returns-2
 unfolding dataHeld
-returns-2 c = search (at-turn 2 (c .before .before .before .before .args .self .turn) (c .before .before .before .match .keys1), cases)
+returns-2 c = search (at-turn free (c .before .before .before .before .args .self .turn) (c .before .before .before .match .keys1), cases)
 
 returns-3 : tie.Need-returns-3
 unfolding dataHeld
-returns-3 c = search (at-turn 11 (c .before .before .before .args .self .turn) (c .before .before .match .keys2), cases)
+returns-3 c = search (at-turn restarting (c .before .before .before .args .self .turn) (c .before .before .match .keys2), cases)
 
 returns-4 : tie.Need-returns-4
 unfolding dataHeld
-returns-4 c = search (at-turns (0 ∷ 1 ∷ 3 ∷ 4 ∷ 5 ∷ 6 ∷ 7 ∷ 8 ∷ 9 ∷ 10 ∷ []) (c .before .before .args .self .turn) (c .before .match .keys3), cases)
+returns-4 c = search (at-turns (except (free ∷ restarting ∷ [])) (c .before .before .args .self .turn) (c .before .match .keys3), cases)
 
 pub data-held-spec : {M : Type 1} → statement M
 data-held-spec =

@@ -1,7 +1,8 @@
 -- `idle` is `idle`: what is known at each return settles the tests of the definition.
 use mathlib.Core.List.{[], _∷_}
 use borrow.Author.Needs.{needs}
-use Rattle.control.proofs.Turning.{at-turns}
+use Rattle.control.proofs.Turning.{at-turns, except}
+use Rattle.control.specs.Turn.{busy, listen}
 use Rattle.controller.specs.Condition.{idle}
 use Rattle.notation.proofs.Cases.{cases}
 use Rattle.controller.proofs.record.Controller.idle.Statement.{statement}
@@ -9,11 +10,11 @@ use Rattle.controller.proofs.record.Controller.idle.Tie as tie
 
 returns : tie.Need-returns
 unfolding idle
-returns c = search (at-turns (3 ∷ 4 ∷ []) (c .before .before .before .before .before .args .self .turn) (c .before .match .keys1), cases)
+returns c = search (at-turns (busy ∷ listen ∷ []) (c .before .before .before .before .before .args .self .turn) (c .before .match .keys1), cases)
 
 returns-2 : tie.Need-returns-2
 unfolding idle
-returns-2 c = search (at-turns (0 ∷ 1 ∷ 2 ∷ 5 ∷ 6 ∷ 7 ∷ 8 ∷ 9 ∷ 10 ∷ 11 ∷ []) (c .before .before .before .before .before .args .self .turn) (c .before .match .keys2), cases)
+returns-2 c = search (at-turns (except (busy ∷ listen ∷ [])) (c .before .before .before .before .before .args .self .turn) (c .before .match .keys2), cases)
 
 returns-3 : tie.Need-returns-3
 unfolding idle

@@ -1,7 +1,8 @@
 -- `other_start` is `otherStart`: what is known at each return settles the tests of the definition.
 use mathlib.Core.List.{[], _∷_}
 use borrow.Author.Needs.{needs}
-use Rattle.control.proofs.Turning.{at-turn, at-turns}
+use Rattle.control.proofs.Turning.{at-turn, at-turns, except}
+use Rattle.control.specs.Turn.{free, busy, slaveReceive, restarting}
 use Rattle.controller.specs.Condition.{otherStart}
 use Rattle.notation.proofs.Cases.{cases}
 use Rattle.controller.proofs.record.Controller.other_start.Statement.{statement}
@@ -9,19 +10,19 @@ use Rattle.controller.proofs.record.Controller.other_start.Tie as tie
 
 returns : tie.Need-returns
 unfolding otherStart
-returns c = search (at-turns (2 ∷ 3 ∷ []) (c .before .before .args .self .turn) (c .before .match .keys1), cases)
+returns c = search (at-turns (free ∷ busy ∷ []) (c .before .before .args .self .turn) (c .before .match .keys1), cases)
 
 returns-2 : tie.Need-returns-2
 unfolding otherStart
-returns-2 c = search (at-turn 11 (c .before .before .before .args .self .turn) (c .before .before .match .keys2), cases)
+returns-2 c = search (at-turn restarting (c .before .before .before .args .self .turn) (c .before .before .match .keys2), cases)
 
 returns-3 : tie.Need-returns-3
 unfolding otherStart
-returns-3 c = search (at-turn 8 (c .before .before .before .args .self .turn) (c .before .before .match .keys3), cases)
+returns-3 c = search (at-turn slaveReceive (c .before .before .before .args .self .turn) (c .before .before .match .keys3), cases)
 
 returns-4 : tie.Need-returns-4
 unfolding otherStart
-returns-4 c = search (at-turns (0 ∷ 1 ∷ 4 ∷ 5 ∷ 6 ∷ 7 ∷ 9 ∷ 10 ∷ []) (c .before .before .args .self .turn) (c .before .match .keys4), cases)
+returns-4 c = search (at-turns (except (free ∷ busy ∷ slaveReceive ∷ restarting ∷ [])) (c .before .before .args .self .turn) (c .before .match .keys4), cases)
 
 pub other-start-spec : {M : Type 1} → statement M
 other-start-spec =

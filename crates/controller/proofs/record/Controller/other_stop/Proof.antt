@@ -1,7 +1,8 @@
 -- `other_stop` is `otherStop`: what is known at each return settles the tests of the definition.
 use mathlib.Core.List.{[], _∷_}
 use borrow.Author.Needs.{needs}
-use Rattle.control.proofs.Turning.{at-turn, at-turns}
+use Rattle.control.proofs.Turning.{at-turn, at-turns, except}
+use Rattle.control.specs.Turn.{busy, slaveReceive}
 use Rattle.controller.specs.Condition.{otherStop}
 use Rattle.notation.proofs.Cases.{cases}
 use Rattle.controller.proofs.record.Controller.other_stop.Statement.{statement}
@@ -9,15 +10,15 @@ use Rattle.controller.proofs.record.Controller.other_stop.Tie as tie
 
 returns : tie.Need-returns
 unfolding otherStop
-returns c = search (at-turn 3 (c .before .before .before .args .self .turn) (c .before .before .match .keys1), cases)
+returns c = search (at-turn busy (c .before .before .before .args .self .turn) (c .before .before .match .keys1), cases)
 
 returns-2 : tie.Need-returns-2
 unfolding otherStop
-returns-2 c = search (at-turn 8 (c .before .before .before .args .self .turn) (c .before .before .match .keys2), cases)
+returns-2 c = search (at-turn slaveReceive (c .before .before .before .args .self .turn) (c .before .before .match .keys2), cases)
 
 returns-3 : tie.Need-returns-3
 unfolding otherStop
-returns-3 c = search (at-turns (0 ∷ 1 ∷ 2 ∷ 4 ∷ 5 ∷ 6 ∷ 7 ∷ 9 ∷ 10 ∷ 11 ∷ []) (c .before .before .args .self .turn) (c .before .match .keys3), cases)
+returns-3 c = search (at-turns (except (busy ∷ slaveReceive ∷ [])) (c .before .before .args .self .turn) (c .before .match .keys3), cases)
 
 pub other-stop-spec : {M : Type 1} → statement M
 other-stop-spec =
