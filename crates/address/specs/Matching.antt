@@ -3,9 +3,9 @@ use mathlib.Core.Bool.{Bool}
 use Prim.Native.Nat.{ℕ, _/_, _%_}
 use lib.Dec.{eqb, ltb}
 use Rattle.address.specs.Number.{addressOf, directionOf}
-use Rattle.address.specs.declared.number.AddressByte.{AddressByte}
 use Rattle.address.specs.declared.matching.Match.the-variants.{Own, General, Nothing}
 use Rattle.address.specs.declared.matching.Match.{Match}
+use Rattle.address.specs.declared.number.AddressByte.{AddressByte}
 use Rattle.notation.specs.Choice.{if_then_else_, _and_}
 
 -- "Byte 00h with .. GC"

@@ -15,7 +15,7 @@ pub enum Called {
     General,
 }
 
-// Address to Restarting are the wire turns.
+// What the controller waits for; Address to Restarting are the wire turns.
 pub enum Turn {
     Off,
     // SI is 1, and the host has the next move. The status, and at A0h the bus condition.
@@ -54,6 +54,7 @@ impl Turn {
         }
     }
 
+    // A wire turn (document 01's term): something is under way on the bus.
     pub fn on_wire(self) -> bool
         ensures { λ r. ⌜ r ≡ waits self wireTurns ⌝ }
     {

@@ -4,9 +4,9 @@ use mathlib.Core.List.{[], _∷_}
 use Prim.Native.Nat.{ℕ}
 use lib.Dec.{ltb}
 use Rattle.address.specs.Matching.{matchOf}
-use Rattle.address.specs.declared.number.Direction.the-variants.{Write, Read}
 use Rattle.address.specs.declared.matching.Match.the-variants.{Own, General, Nothing}
 use Rattle.address.specs.declared.matching.Match.{Match}
+use Rattle.address.specs.declared.number.Direction.the-variants.{Write, Read}
 use Rattle.control.specs.Turn.{off, host, free, busy, listen, address, send, receive, slaveReceive, stopping, restarting, wireTurns, waits}
 use Rattle.control.specs.declared.flags.Control.{Control}
 use Rattle.control.specs.declared.turn.Edge.the-variants.{Stop, Start}

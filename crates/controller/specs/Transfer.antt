@@ -1,7 +1,7 @@
 -- Document 01, Events 6 and 7: a byte out and a byte in, in Byte mode and in Buffered mode.
 use mathlib.Core.Bool.{Bool, true, not}
 use mathlib.Core.List.{[], _∷_}
-use Prim.Native.Nat.{ℕ, _+_, _%_}
+use Prim.Native.Nat.{ℕ, _+_}
 use lib.Dec.{eqb}
 use Rattle.address.specs.Number.{directionOf}
 use Rattle.address.specs.declared.number.Direction.the-variants.{Write, Read}
