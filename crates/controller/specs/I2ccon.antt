@@ -51,5 +51,6 @@ writeFlags c k =
     else if k .ensio then enabled c k (response (c .turn) k)
     else controlled c (withoutStart k) Off
 
+-- "3: I2CCON", written with any byte
 unfoldable pub writeControl : Controller → ℕ → Outcome
 writeControl c value = writeFlags c (flagsOf value)

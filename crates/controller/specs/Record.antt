@@ -19,6 +19,7 @@ place c i = getD (c .buffer) i 0
 abbrev pub byteCount : Controller → ℕ
 byteCount c = c .registers .count % 128
 
+-- LB
 abbrev pub lastByte : Controller → Bool
 lastByte c = eqb (c .registers .count / 128) 1
 
@@ -36,6 +37,7 @@ givenStatuses =
     0x00 ∷ 0x08 ∷ 0x10 ∷ 0x18 ∷ 0x20 ∷ 0x28 ∷ 0x30 ∷ 0x38 ∷ 0x40 ∷ 0x48 ∷ 0x50 ∷ 0x58 ∷ 0x60 ∷ 0x68 ∷ 0x70 ∷ 0x78 ∷ 0x80 ∷ 0x88 ∷
     0xA0 ∷ 0xA8 ∷ 0xB0 ∷ 0xB8 ∷ 0xC0 ∷ 0xC8 ∷ 0xD0 ∷ 0xD8 ∷ 0xE0 ∷ 0xE8 ∷ []
 
+-- a turn that is not Host has no status to ask about
 unfoldable pub hostSound : Turn → Bool
 hostSound turn = if waits turn (host ∷ []) then among (statusOf turn) givenStatuses else true
 

@@ -23,6 +23,7 @@ readData c =
     if eqb (c .hand) 68 then refuses c 7
     else accepts (withHand c (c .hand + 1)) (place c (c .hand))
 
+-- the same for a write: the byte goes to the hand place
 unfoldable pub writeData : Controller → ℕ → Outcome
 writeData c value =
     if eqb (c .hand) 68 then refuses c 7
@@ -67,6 +68,7 @@ stored g pointer value =
     else if eqb pointer 4 then withTimeout g value
     else withSpeed g (value % 4)
 
+-- "2: the register at the pointer", written: I2CPRESET, or a register that is kept
 unfoldable pub writeAtPointer : Controller → ℕ → Outcome
 writeAtPointer c value =
     if eqb (c .pointer) 5 then writePreset c value

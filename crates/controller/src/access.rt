@@ -45,6 +45,7 @@ impl Controller {
         turn.on_wire()
     }
 
+    // A register of a sound record, read.
     fn read_sound(self, register: u8) -> Reply
         requires { ⌜ sound self ≡ true ⌝ }
         ensures { λ r. ⌜ outcomeOf r ≡ readSound self register ⌝ }
@@ -81,6 +82,7 @@ impl Controller {
         }
     }
 
+    // A register of a sound record, written.
     fn write_sound(self, register: u8, value: u8) -> Reply
         requires { ⌜ sound self ≡ true ⌝ }
         ensures { λ r. ⌜ outcomeOf r ≡ writeSound self register value ⌝ }

@@ -57,6 +57,7 @@ impl Controller {
         }
     }
 
+    // A data byte out: `broken` is the status at a NACK, `done` the one at the last byte.
     fn data_out(mut self, nack: u8, broken: u8, done: u8) -> Reply
         requires { ⌜ self .moved < 68 ⌝ }
         ensures { λ r. ⌜ outcomeOf r ≡ dataOut self nack broken done ⌝ }
@@ -112,6 +113,7 @@ impl Controller {
         self
     }
 
+    // A data byte in: the status at the last byte is `taken` if it is acknowledged, else `ended`.
     fn data_in(self, byte: u8, taken: u8, ended: u8) -> Reply
         requires { ⌜ self .moved < 68 ⌝ }
         ensures { λ r. ⌜ outcomeOf r ≡ dataIn self byte taken ended ⌝ }
@@ -128,6 +130,7 @@ impl Controller {
         }
     }
 
+    // A data byte in as a slave, by the address that was called.
     fn slave_in(self, byte: u8, called: Called) -> Reply
         requires { ⌜ self .moved < 68 ⌝ }
         ensures { λ r. ⌜ outcomeOf r ≡ slaveIn self byte called ⌝ }
