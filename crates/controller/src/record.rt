@@ -100,7 +100,7 @@ impl Controller {
     }
 
     // Sound (document 01's term): the record obeys the paper's ranges, whatever the buffer holds.
-    pub(crate) fn is_sound(self) -> bool
+    pub fn is_sound(self) -> bool
         ensures { λ r. ⌜ r ≡ sound self ⌝ }
     {
         if 7 < self.pointer {

@@ -6,3 +6,4 @@ pub mod KeptEvents
 pub mod KeptAccesses
 pub mod Soundness
 pub mod Status
+pub mod Blind

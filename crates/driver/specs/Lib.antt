@@ -1,0 +1,5 @@
+-- Document 01, Jobs.
+pub mod Ending
+pub mod Request
+pub mod Service
+pub mod Run

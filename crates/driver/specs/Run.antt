@@ -1,0 +1,139 @@
+-- Document 01, Jobs: the run over the script's pairs, and what the job gives.
+use mathlib.Core.Bool.{false}
+use mathlib.Core.List.{List, [], _∷_}
+use Prim.Native.Nat.{ℕ, _+_}
+use lib.Dec.{eqb}
+use lib.ListN.{length, take, replicate}
+use Rattle.address.specs.Number.{bitOf}
+use Rattle.controller.specs.Event.{eventOf}
+use Rattle.controller.specs.declared.record.Controller.{Controller}
+use Rattle.driver.specs.Ending.{numberOf, besideOf}
+use Rattle.driver.specs.Request.{malformed, ready}
+use Rattle.driver.specs.Service.{begins, serve}
+use Rattle.driver.specs.declared.ending.Ending.the-variants.{Unfinished}
+use Rattle.driver.specs.declared.job.Job.{Job}
+use Rattle.driver.specs.declared.job.JobResult.{JobResult}
+use Rattle.driver.specs.declared.progress.Progress.{Progress}
+use Rattle.notation.specs.Choice.{if_then_else_, _and_}
+
+-- What a job answers, in the paper's numbers: the record, the answer, the number beside it, the count and the events used.
+pub record Result : Type 0 where
+  pub next : Controller
+  pub answer : ℕ
+  pub refused : ℕ
+  pub count : ℕ
+  pub events : ℕ
+
+unfoldable pub resultOf : JobResult → Result
+resultOf r = record {
+  next = r .controller;
+  answer = numberOf (r .ending);
+  refused = besideOf (r .ending);
+  count = r .count;
+  events = r .events;
+}
+
+-- What a run over pairs gives: the result, the bytes read back and the bytes sent.
+pub record Run : Type 0 where
+  pub result : Result
+  pub fetched : List ℕ
+  pub sent : List ℕ
+
+-- a job that is over
+unfoldable pub closes : Progress → Run
+closes p = record {
+  result = record {
+    next = p .controller;
+    answer = numberOf (p .ending);
+    refused = besideOf (p .ending);
+    count = p .count;
+    events = p .events;
+  };
+  fetched = p .fetched;
+  sent = [];
+}
+
+-- 27, "script ended first; record as reached", and 28, "its number beside it .., record as before that event": count 0
+unfoldable pub breaks : Progress → ℕ → ℕ → Run
+breaks p answer refused = record {
+  result = record { next = p .controller; answer = answer; refused = refused; count = 0; events = p .events };
+  fetched = p .fetched;
+  sent = [];
+}
+
+-- "the bytes sent, one for each accepted event 6": this one, and those of the rest of the run
+unfoldable pub sending : ℕ → ℕ → Run → Run
+sending event value r = record {
+  result = r .result;
+  fetched = r .fetched;
+  sent = if eqb event 6 then value ∷ (r .sent) else r .sent;
+}
+
+-- a pair is taken: the record after the event, and one event more used
+unfoldable pub taking : Progress → Controller → Progress
+taking p c = record {
+  controller = c;
+  over = p .over;
+  ending = p .ending;
+  count = p .count;
+  events = p .events + 1;
+  fetched = p .fetched;
+}
+
+-- "After each pair it does this work first, then looks for the next pair or the script's end. It takes pairs while the job lasts; later
+-- pairs aren't looked at." (A single byte left over is no pair; such a script is answered 21 before.)
+unfoldable pub run : Job → List ℕ → Progress → List ℕ → Run
+run job payload p [] = breaks p 27 0
+run job payload p (event ∷ []) = breaks p 27 0
+run job payload p (event ∷ argument ∷ rest) =
+    let o = eventOf (p .controller) event argument in
+    let q = serve job payload event (taking p (o .next)) in
+    if eqb (o .refused) 0
+    then sending event (o .value) (if q .over then closes q else run job payload q rest)
+    else breaks p 28 (o .refused)
+
+-- the driver as a job begins: nothing read back, nothing taken
+unfoldable pub starts : Job → Controller → Progress
+starts job c = record {
+  controller = begins job c;
+  over = false;
+  ending = Unfinished;
+  count = 0;
+  events = 0;
+  fetched = replicate 68 0;
+}
+
+-- What a job gives: its result, "bytes sent and bytes handed up, both in order".
+pub record Report : Type 0 where
+  pub result : Result
+  pub sent : List ℕ
+  pub handed : List ℕ
+
+-- "Handed up are the destination's first n bytes for answer 0 of a read, else none."
+unfoldable pub handsUp : Job → ℕ → List ℕ → List ℕ
+handsUp job answer fetched = if eqb answer 0 and eqb (bitOf (job .direction)) 1 then take (job .n) fetched else []
+
+unfoldable pub reports : Job → Run → Report
+reports job r = record { result = r .result; sent = r .sent; handed = handsUp job (r .result .answer) (r .fetched) }
+
+-- 21 and 22: "both leave everything as it was"
+unfoldable pub declines : Controller → ℕ → Report
+declines c answer = record {
+  result = record { next = c; answer = answer; refused = 0; count = 0; events = 0 };
+  sent = [];
+  handed = [];
+}
+
+-- A job: kind, address and n; the data; the lengths of destination and out record; the script. "21 comes before 22".
+unfoldable pub jobOf : Job → List ℕ → ℕ → ℕ → List ℕ → Controller → Report
+jobOf job payload room places script c =
+    if malformed job (length payload) room places (length script) then declines c 21
+    else if ready c then reports job (run job payload (starts job c) script)
+    else declines c 22
+
+-- A lent buffer that begins with these bytes, its rest as it was. (Bytes for which it has no place are left out; that a job sends and
+-- hands up no more than fit is a theorem, `Fits`.)
+unfoldable pub laid : List ℕ → List ℕ → List ℕ
+laid [] lent = lent
+laid (x ∷ xs) [] = []
+laid (x ∷ xs) (y ∷ lent) = x ∷ laid xs lent

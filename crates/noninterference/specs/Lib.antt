@@ -1,0 +1,2 @@
+-- Demand 3 of document 01.
+pub mod OldBytes

@@ -1,0 +1,135 @@
+-- Demand 3 of document 01, whole, as one statement, `Demand3`, at the end of this file. That it holds is `demand-3` in
+-- proofs/Theorem.antt; nothing of the proof has to be read to know what is claimed.
+use mathlib.Core.List.{List, [], _∷_}
+use mathlib.Core.Path.{_≡_}
+use Prim.Native.Nat.{ℕ}
+use lib.Dec.{eqb}
+use lib.ListN.{length}
+use Rattle.address.specs.declared.number.Direction.the-variants.{Read}
+use Rattle.controller.specs.Access.{writeOf}
+use Rattle.controller.specs.Event.{eventOf}
+use Rattle.controller.specs.Reply.{Outcome}
+use Rattle.controller.specs.declared.record.Controller.{Controller}
+use Rattle.driver.specs.Run.{Report, jobOf}
+use Rattle.driver.specs.declared.job.Job.{Job}
+use Rattle.notation.specs.Choice.{if_then_else_}
+
+-- A job on the list. "The same job means the same kind, address, n, data, script and lengths of destination and out record; what those
+-- two held may differ." Kind, address and n are in `job`; what destination and out record held is not in here at all.
+pub record Request : Type 0 where
+  pub job : Job
+  pub payload : List ℕ
+  pub room : ℕ
+  pub places : ℕ
+  pub script : List ℕ
+
+-- What the list may hold: "jobs, resets, enabling writes and other masters' STARTs, STOPs and address bytes, refused ones included".
+pub data Item : Type 0 where
+  -- a job with its script
+  work : Request → Item
+  -- "a reset is event 14": the reset pin, with its argument
+  resetPin : ℕ → Item
+  -- "or the software one (A5h and next 5Ah to I2CPRESET, with 05h written to INDPTR first ..)": a byte written to INDPTR, and one to
+  -- register 2, which is I2CPRESET where the pointer is 05h
+  indptr : ℕ → Item
+  preset : ℕ → Item
+  -- "an enabling write is any I2CCON write with ENSIO 1": a byte written to I2CCON, with ENSIO 1 or not
+  i2ccon : ℕ → Item
+  -- "other masters' STARTs, STOPs and address bytes are events 2, 3 and 5", each with its argument
+  otherStart : ℕ → Item
+  otherStop : ℕ → Item
+  addressByte : ℕ → Item
+
+-- What is compared.
+pub data Seen : Type 0 where
+  -- "for each write or event, its refusal number, if any, and its value"
+  answered : (refused value : ℕ) → Seen
+  -- "for each job its answer, the number beside it, its count, events used, bytes sent and bytes handed up, both in order"
+  worked : (answer refused count events : ℕ) (sent handed : List ℕ) → Seen
+
+-- one item given to a record: the record that it leaves, and what is compared
+pub record Step : Type 0 where
+  pub next : Controller
+  pub seen : Seen
+
+abbrev pub ofAccess : Outcome → Step
+ofAccess o = record { next = o .next; seen = answered (o .refused) (o .value) }
+
+abbrev pub ofJob : Report → Step
+ofJob r = record {
+  next = r .result .next;
+  seen = worked (r .result .answer) (r .result .refused) (r .result .count) (r .result .events) (r .sent) (r .handed);
+}
+
+-- the report of a job given to a record
+abbrev pub reportOf : Request → Controller → Report
+reportOf q c = jobOf (q .job) (q .payload) (q .room) (q .places) (q .script) c
+
+-- each item by the rules of document 01
+abbrev pub step : Item → Controller → Step
+step (work q) c = ofJob (reportOf q c)
+step (resetPin argument) c = ofAccess (eventOf c 14 argument)
+step (indptr value) c = ofAccess (writeOf c 0 value)
+step (preset value) c = ofAccess (writeOf c 2 value)
+step (i2ccon value) c = ofAccess (writeOf c 3 value)
+step (otherStart argument) c = ofAccess (eventOf c 2 argument)
+step (otherStop argument) c = ofAccess (eventOf c 3 argument)
+step (addressByte byte) c = ofAccess (eventOf c 5 byte)
+
+-- "Each one on the list, accepted or refused, gets the record that the one before left, and nothing else writes the two records
+-- meanwhile."
+unfoldable pub observe : List Item → Controller → List Seen
+observe [] c = []
+observe (i ∷ items) c = step i c .seen ∷ observe items (step i c .next)
+
+-- "What the bus carried in it are the arguments of the event 7 pairs before its script's first event 4, .. in script order."
+unfoldable pub carried : List ℕ → List ℕ
+carried [] = []
+carried (event ∷ []) = []
+carried (event ∷ argument ∷ rest) =
+    if eqb event 4 then [] else if eqb event 7 then argument ∷ carried rest else carried rest
+
+-- "A finished read is a read answered 0": it hands up exactly what the bus carried, n of them
+abbrev pub HandsUpCarried : Request → Report → Type 0
+HandsUpCarried q r =
+    r .result .answer ≡ 0 → q .job .direction ≡ Read → (r .handed ≡ carried (q .script)) × (length (r .handed) ≡ q .job .n)
+
+-- of one item; there is nothing to say of what is no job
+abbrev pub Carries : Item → Controller → Type 0
+Carries (work q) c = HandsUpCarried q (reportOf q c)
+Carries (resetPin argument) c = Unit {0}
+Carries (indptr value) c = Unit {0}
+Carries (preset value) c = Unit {0}
+Carries (i2ccon value) c = Unit {0}
+Carries (otherStart argument) c = Unit {0}
+Carries (otherStop argument) c = Unit {0}
+Carries (addressByte byte) c = Unit {0}
+
+-- of every item, each given the record that the one before left
+abbrev pub AllCarry : List Item → Controller → Type 0
+AllCarry [] c = Unit {0}
+AllCarry (i ∷ items) c = Carries i c × AllCarry items (step i c .next)
+
+-- "The two starting records are any, sound or not and in any turn, that are equal but for what the 68 places hold; that is their old
+-- contents."
+pub record AlikeButForPlaces (c c′ : Controller) : Type 0 where
+  pub hand : c .hand ≡ c′ .hand
+  pub moved : c .moved ≡ c′ .moved
+  pub pointer : c .pointer ≡ c′ .pointer
+  pub armed : c .armed ≡ c′ .armed
+  pub registers : c .registers ≡ c′ .registers
+  pub control : c .control ≡ c′ .control
+  pub turn : c .turn ≡ c′ .turn
+  pub places : length (c .buffer) ≡ 68
+  pub places′ : length (c′ .buffer) ≡ 68
+
+-- "Two controllers .. give the same answers, counts, bytes sent and bytes handed up from the first to the last; and every finished read
+-- hands up exactly what the bus carried."
+pub record NoOldBytes (items : List Item) (c c′ : Controller) : Type 0 where
+  pub same : observe items c ≡ observe items c′
+  pub carry : AllCarry items c
+  pub carry′ : AllCarry items c′
+
+-- "Demand 3 is one claim about the whole list, not one for each thing on it."
+abbrev pub Demand3 : Type 0
+Demand3 = (items : List Item) (c c′ : Controller) → AlikeButForPlaces c c′ → NoOldBytes items c c′
