@@ -1,2 +1,6 @@
 -- Demand 3, proved.
 pub mod Twin
+pub mod Accesses
+pub mod Moves
+pub mod Stage
+pub mod Steps
