@@ -4,3 +4,5 @@ pub mod Accesses
 pub mod Moves
 pub mod Stage
 pub mod Steps
+pub mod Runs
+pub mod Theorem

@@ -27,7 +27,7 @@ use Rattle.notation.proofs.Cases.{if-true, if-false, and-left}
 use Rattle.notation.specs.Choice.{if_then_else_, _and_, among}
 
 -- being one of these numbers, as what an arm of a match knows
-one-of : (ks : List ℕ) (x : ℕ) → among x ks ≡ true → OneOf ks x
+pub one-of : (ks : List ℕ) (x : ℕ) → among x ks ≡ true → OneOf ks x
 unfolding among
 one-of [] x e = absurd (false≢true e)
 one-of (k ∷ []) x e = step (eqb x k) refl

@@ -297,7 +297,7 @@ module _ (job : Job) (payload : List ℕ) (form : Formed job payload) (carried :
       (λ t. refusing 13 argument 7)
 
   -- BC is n
-  byte-count : byteCount (p .controller) ≡ job .n
+  pub byte-count : byteCount (p .controller) ≡ job .n
   byte-count = ap (λ (x : ℕ). x % 128) (g .basic .count) ∙ count-below (job .direction) (job .n) (form .high)
 
   -- a count that starts a buffered move
@@ -625,8 +625,8 @@ module _ (job : Job) (payload : List ℕ) (form : Formed job payload) (carried :
       last : eqb number 1 ≡ false → eqb number 2 ≡ false → eqb number 3 ≡ false → eqb number 4 ≡ false → eqb number 5 ≡ false → eqb number 6 ≡ false → eqb number 7 ≡ false → eqb number 8 ≡ false → eqb number 9 ≡ false → eqb number 10 ≡ false → eqb number 11 ≡ false → eqb number 12 ≡ false → number ≡ 13
       last x1 x2 x3 x4 x5 x6 x7 x8 x9 x10 x11 x12 =
           let low =
-              above 12 x12 (above 11 x11 (above 10 x10 (above 9 x9 (above 8 x8 (above 7 x7 (above 6 x6 (above 5 x5 (above 4 x4 (above 3 x3 (above 2 x2
-              (above 1 x1 (above 0 n0 (omega arith))))))))))))) in
+          above 12 x12 (above 11 x11 (above 10 x10 (above 9 x9 (above 8 x8 (above 7 x7 (above 6 x6 (above 5 x5 (above 4 x4 (above 3 x3 (above 2 x2
+          (above 1 x1 (above 0 n0 (omega arith))))))))))))) in
           let high = ltb-false 14 number n14 in
           let other = eqb-false number 14 x14 in
           omega (arith, low, high, other)
