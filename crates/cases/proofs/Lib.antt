@@ -1,0 +1,2 @@
+-- The starred cases, shown.
+pub mod Starred

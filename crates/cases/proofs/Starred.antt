@@ -1,0 +1,26 @@
+-- Each starred case shows what document 01 says: one equation over the list of them, by computing both sides. Assumes nothing.
+use mathlib.Core.List.{map}
+use mathlib.Core.Path.{_≡_, refl}
+use Rattle.address.specs.Matching.{callsAll, callsOwn, matchOf}
+use Rattle.address.specs.Number.{bitOf, byteOf, addressOf, directionOf}
+use Rattle.cases.specs.Starred.{starredCases, outcome, lastShown, times, Case}
+use Rattle.control.specs.Flags.{flagsOf, weighs, readsAs}
+use Rattle.control.specs.Turn.{kind, statusOf, edgeOf, calledOf}
+use Rattle.control.specs.Writing.{ends as endsAt, afterEdge, atStatus as respondsAt, response}
+use Rattle.controller.specs.Access.{indirectAt, barsRead, barsWrite, readSound, readOf, writeSound, writeOf}
+use Rattle.controller.specs.Condition.{ownStart, otherStart, otherStop, ownStop, addressed, addressByte, outbid, addressLost, dataLost, illegalEdge, dataHeld, clockHeld, idle}
+use Rattle.controller.specs.Event.{badArgument, eventSound, eventOf}
+use Rattle.controller.specs.I2ccon.{keeps, controlled, badCount, enabled, writeFlags, writeControl}
+use Rattle.controller.specs.Record.{hostSound, moveSound, sound}
+use Rattle.controller.specs.Registers.{wrote, writePointer, readData, writeData, atPointer, stored, writeAtPointer}
+use Rattle.controller.specs.Reply.{refuses, accepts, waitsFor, interruptsAt}
+use Rattle.controller.specs.Reset.{resetWith, completesReset, writePreset}
+use Rattle.controller.specs.Transfer.{cursor, isLast, dataOut, addressStatus, byteOut, acknowledgesLast, received, dataIn, slaveIn, byteIn}
+use Rattle.driver.specs.Request.{badLength, badAddress, lent, malformed, ready}
+use Rattle.driver.specs.Run.{closes, breaks, sending, taking, run, starts, handsUp, reports, declines, jobOf}
+use Rattle.driver.specs.Service.{put, reads, countOf, begins, addresses, load, sends, fetchOne, fetch, movedCount, pointsBack, goesOn, stops, ends, finishes, stopsRead, atStatus, serve}
+use Rattle.notation.specs.Choice.{if_then_else_, _and_, _or_, among}
+
+pub starred : map outcome starredCases ≡ map (λ (k : Case). k .shows) starredCases
+unfolding if_then_else_ _and_ _or_ among callsAll callsOwn matchOf bitOf byteOf addressOf directionOf flagsOf weighs readsAs kind statusOf edgeOf calledOf endsAt afterEdge respondsAt response indirectAt barsRead barsWrite readSound readOf writeSound writeOf ownStart otherStart otherStop ownStop addressed addressByte outbid addressLost dataLost illegalEdge dataHeld clockHeld idle badArgument eventSound eventOf keeps controlled badCount enabled writeFlags writeControl hostSound moveSound sound wrote writePointer readData writeData atPointer stored writeAtPointer refuses accepts waitsFor interruptsAt resetWith completesReset writePreset cursor isLast dataOut addressStatus byteOut acknowledgesLast received dataIn slaveIn byteIn badLength badAddress lent malformed ready closes breaks sending taking run starts handsUp reports declines jobOf put reads countOf begins addresses load sends fetchOne fetch movedCount pointsBack goesOn stops ends finishes stopsRead atStatus serve lastShown times
+starred = refl

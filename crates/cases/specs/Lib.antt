@@ -1,0 +1,2 @@
+-- Document 01, Cases.
+pub mod Starred

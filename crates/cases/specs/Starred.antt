@@ -1,0 +1,143 @@
+-- Document 01, "Cases, those marked * proved": each case as what is given to a fresh controller and what the last of it shows.
+use mathlib.Core.Bool.{Bool, true, false}
+use mathlib.Core.List.{List, [], _∷_, _++_, map}
+use Prim.Native.Nat.{ℕ, zero, suc}
+use lib.ListN.{replicate}
+use Rattle.address.specs.declared.number.Direction.the-variants.{Write, Read}
+use Rattle.address.specs.declared.number.Direction.{Direction}
+use Rattle.control.specs.declared.turn.Edge.the-variants.{Stop}
+use Rattle.control.specs.declared.turn.Turn.the-variants.{Busy, Address, Host}
+use Rattle.control.specs.declared.turn.Turn.{Turn}
+use Rattle.controller.specs.Access.{writeOf}
+use Rattle.controller.specs.Event.{eventOf}
+use Rattle.controller.specs.Reply.{Outcome}
+use Rattle.controller.specs.Reset.{fresh}
+use Rattle.controller.specs.declared.record.Controller.{Controller}
+use Rattle.driver.specs.Run.{Report, jobOf}
+
+-- what is given to the controller
+pub data Move : Type 0 where
+  write : (register value : ℕ) → Move
+  event : (number argument : ℕ) → Move
+  -- a job with its data and script, a destination of 68 and an out record of 69 bytes
+  job : (direction : Direction) (address n : ℕ) (payload script : List ℕ) → Move
+
+-- what a move shows: of a write or event the refusal number and the turn after it; of a job the answer, count, events used, bytes sent,
+-- bytes handed up and STA after it
+pub data Shown : Type 0 where
+  nothing : Shown
+  accessed : (refused : ℕ) (turn : Turn) → Shown
+  worked : (answer count events : ℕ) (sent handed : List ℕ) (sta : Bool) → Shown
+
+pub record After : Type 0 where
+  pub next : Controller
+  pub shown : Shown
+
+abbrev pub afterAccess : Outcome → After
+afterAccess o = record { next = o .next; shown = accessed (o .refused) (o .next .turn) }
+
+abbrev pub afterJob : Report → After
+afterJob r = record {
+  next = r .result .next;
+  shown = worked (r .result .answer) (r .result .count) (r .result .events) (r .sent) (r .handed) (r .result .next .control .sta);
+}
+
+abbrev pub move : Move → Controller → After
+move (write register value) c = afterAccess (writeOf c register value)
+move (event number argument) c = afterAccess (eventOf c number argument)
+move (job direction address n payload script) c =
+    afterJob (jobOf (record { direction = direction; address = record { 0 = address }; n = n }) payload 68 69 script c)
+
+-- what the last move shows, each given the record that the one before left
+unfoldable pub lastShown : List Move → Shown → Controller → Shown
+lastShown [] shown c = shown
+lastShown (m ∷ moves) shown c = lastShown moves (move m c .shown) (move m c .next)
+
+pub record Case : Type 0 where
+  pub given : List Move
+  pub shows : Shown
+
+-- what a case shows by the rules
+abbrev pub outcome : Case → Shown
+outcome k = lastShown (k .given) nothing fresh
+
+-- the byte pair so many times
+unfoldable pub times : ℕ → ℕ → ℕ → List ℕ
+times zero number argument = []
+times (suc n) number argument = number ∷ argument ∷ times n number argument
+
+-- a fresh controller is enabled by 40h
+abbrev enabled : Move
+enabled = write 3 0x40
+
+-- a) "read of 1 from 50h, pairs 01 00, 06 00, 07 5C, 04 00: answer 0, out A1, in 5C, events 4"
+abbrev pub caseA : Case
+caseA = record {
+  given = enabled ∷ job Read 0x50 1 [] (0x01 ∷ 0x00 ∷ 0x06 ∷ 0x00 ∷ 0x07 ∷ 0x5C ∷ 0x04 ∷ 0x00 ∷ []) ∷ [];
+  shows = worked 0 1 4 (0xA1 ∷ []) (0x5C ∷ []) false;
+}
+
+-- b) "the same with 06 01 and then 04 00: 23, in empty, events 3"
+abbrev pub caseB : Case
+caseB = record {
+  given = enabled ∷ job Read 0x50 1 [] (0x01 ∷ 0x00 ∷ 0x06 ∷ 0x01 ∷ 0x04 ∷ 0x00 ∷ []) ∷ [];
+  shows = worked 23 0 3 (0xA1 ∷ []) [] false;
+}
+
+-- c) "write of 2, first data NACKed: 24, count 1"
+abbrev pub caseC : Case
+caseC = record {
+  given = enabled ∷ job Write 0x50 2 (0x11 ∷ 0x22 ∷ []) (0x01 ∷ 0x00 ∷ 0x06 ∷ 0x00 ∷ 0x06 ∷ 0x01 ∷ 0x04 ∷ 0x00 ∷ []) ∷ [];
+  shows = worked 24 1 4 (0xA0 ∷ 0x11 ∷ []) [] false;
+}
+
+-- d) "n 68 can be done": a read, and a write
+abbrev pub caseDRead : Case
+caseDRead = record {
+  given = enabled ∷ job Read 0x50 68 [] (0x01 ∷ 0x00 ∷ 0x06 ∷ 0x00 ∷ (times 68 0x07 0x5C ++ (0x04 ∷ 0x00 ∷ []))) ∷ [];
+  shows = worked 0 68 71 (0xA1 ∷ []) (replicate 68 0x5C) false;
+}
+
+abbrev pub caseDWrite : Case
+caseDWrite = record {
+  given = enabled ∷ job Write 0x50 68 (replicate 68 0x33) (0x01 ∷ 0x00 ∷ 0x06 ∷ 0x00 ∷ (times 68 0x06 0x00 ++ (0x04 ∷ 0x00 ∷ []))) ∷ [];
+  shows = worked 0 68 71 (0xA0 ∷ replicate 68 0x33) [] false;
+}
+
+-- e) "n 0" and f) "n 69 are 21"
+abbrev pub caseE : Case
+caseE = record { given = enabled ∷ job Read 0x50 0 [] [] ∷ []; shows = worked 21 0 0 [] [] false }
+
+abbrev pub caseF : Case
+caseF = record { given = enabled ∷ job Read 0x50 69 [] [] ∷ []; shows = worked 21 0 0 [] [] false }
+
+-- g) "empty script: 27, STA left 1"
+abbrev pub caseG : Case
+caseG = record { given = enabled ∷ job Read 0x50 1 [] [] ∷ []; shows = worked 27 0 0 [] [] true }
+
+-- h) "BC 0 refused 6": I2CCOUNT 00h, and 41h at 18h
+abbrev pub caseH : Case
+caseH = record {
+  given = write 2 0x00 ∷ write 3 0x60 ∷ event 1 0 ∷ write 1 0xA0 ∷ write 3 0x40 ∷ event 6 0 ∷ write 3 0x41 ∷ [];
+  shows = accessed 6 (Host 0x18 Stop);
+}
+
+-- i) "address byte 00h with GC 0 gives Busy": I2CADR E0h, AA 1
+abbrev pub caseI : Case
+caseI = record { given = write 3 0xC0 ∷ event 2 0 ∷ event 5 0x00 ∷ []; shows = accessed 0 Busy }
+
+-- j) "01h with own address 0 gives Busy": I2CADR 00h, AA 1
+abbrev pub caseJ : Case
+caseJ = record { given = write 0 0x01 ∷ write 2 0x00 ∷ write 3 0xC0 ∷ event 2 0 ∷ event 5 0x01 ∷ []; shows = accessed 0 Busy }
+
+-- k) "event 8 with an equal byte is refused 8": A0h is the byte in Address
+abbrev pub caseK : Case
+caseK = record {
+  given = write 3 0x60 ∷ event 1 0 ∷ write 1 0xA0 ∷ write 3 0x40 ∷ event 8 0xA0 ∷ [];
+  shows = accessed 8 Address;
+}
+
+-- all of them, in one list
+abbrev pub starredCases : List Case
+starredCases =
+    caseA ∷ caseB ∷ caseC ∷ caseDRead ∷ caseDWrite ∷ caseE ∷ caseF ∷ caseG ∷ caseH ∷ caseI ∷ caseJ ∷ caseK ∷ []
