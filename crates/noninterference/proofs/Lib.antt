@@ -6,3 +6,4 @@ pub mod Stage
 pub mod Steps
 pub mod Runs
 pub mod Theorem
+pub mod Fits

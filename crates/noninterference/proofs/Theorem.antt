@@ -112,7 +112,7 @@ unfolding ready sound moveSound
 ready-same c c′ t = ap (λ (d : Controller). ready d) (t .rest)
 
 -- only a read answered 0 hands up
-read-bit : (d : Direction) → eqb (bitOf d) 1 ≡ true → d ≡ Read
+pub read-bit : (d : Direction) → eqb (bitOf d) 1 ≡ true → d ≡ Read
 unfolding bitOf
 read-bit Write e = absurd (false≢true e)
 read-bit Read e = refl
@@ -153,7 +153,7 @@ reports-same job r r′ s f =
 
 -- a job that begins
 module _ (q : Request) (m : malformed (q .job) (length (q .payload)) (q .room) (q .places) (length (q .script)) ≡ false) where
-  form : Formed (q .job) (q .payload)
+  pub form : Formed (q .job) (q .payload)
   form = formed (q .job) (q .payload) (q .room) (q .places) (length (q .script)) m
 
   begun : (c : Controller) → ready c ≡ true → length (c .buffer) ≡ 68 → Good (q .job) (q .payload) [] 0 (starts (q .job) c)
@@ -163,7 +163,7 @@ module _ (q : Request) (m : malformed (q .job) (length (q .payload)) (q .room) (
   abbrev runs : Controller → Run
   runs c = run (q .job) (q .payload) (starts (q .job) c) (q .script)
 
-  facts : (c : Controller) → ready c ≡ true → length (c .buffer) ≡ 68 → RunFacts (q .job) (q .payload) form [] 0 (q .script) (runs c)
+  pub facts : (c : Controller) → ready c ≡ true → length (c .buffer) ≡ 68 → RunFacts (q .job) (q .payload) form [] 0 (q .script) (runs c)
   facts c r l = run-facts (q .job) (q .payload) form (q .script) [] 0 _ (begun c r l)
 
   run-alike : (c c′ : Controller) → Twin c c′ → ready c ≡ true → ready c′ ≡ true → ReportSame (reports (q .job) (runs c)) (reports (q .job) (runs c′))
