@@ -1,9 +1,8 @@
 -- Each starred case shows what document 01 says: one equation over the list of them, by computing both sides. Assumes nothing.
-use mathlib.Core.List.{map}
-use mathlib.Core.Path.{_≡_, refl}
+use mathlib.Core.Path.{refl}
 use Rattle.address.specs.Matching.{callsAll, callsOwn, matchOf}
 use Rattle.address.specs.Number.{bitOf, byteOf, addressOf, directionOf}
-use Rattle.cases.specs.Starred.{starredCases, outcome, lastShown, times, Case}
+use Rattle.cases.specs.Starred.{StarredCases, lastShown, times}
 use Rattle.control.specs.Flags.{flagsOf, weighs, readsAs}
 use Rattle.control.specs.Turn.{kind, statusOf, edgeOf, calledOf}
 use Rattle.control.specs.Writing.{ends as endsAt, afterEdge, atStatus as respondsAt, response}
@@ -21,6 +20,6 @@ use Rattle.driver.specs.Run.{closes, breaks, sending, taking, run, starts, hand
 use Rattle.driver.specs.Service.{put, reads, countOf, begins, addresses, load, sends, fetchOne, fetch, movedCount, pointsBack, goesOn, stops, ends, finishes, stopsRead, atStatus, serve}
 use Rattle.notation.specs.Choice.{if_then_else_, _and_, _or_, among}
 
-pub starred : map outcome starredCases ≡ map (λ (k : Case). k .shows) starredCases
+pub starred : StarredCases
 unfolding if_then_else_ _and_ _or_ among callsAll callsOwn matchOf bitOf byteOf addressOf directionOf flagsOf weighs readsAs kind statusOf edgeOf calledOf endsAt afterEdge respondsAt response indirectAt barsRead barsWrite readSound readOf writeSound writeOf ownStart otherStart otherStop ownStop addressed addressByte outbid addressLost dataLost illegalEdge dataHeld clockHeld idle badArgument eventSound eventOf keeps controlled badCount enabled writeFlags writeControl hostSound moveSound sound wrote writePointer readData writeData atPointer stored writeAtPointer refuses accepts waitsFor interruptsAt resetWith completesReset writePreset cursor isLast dataOut addressStatus byteOut acknowledgesLast received dataIn slaveIn byteIn badLength badAddress lent malformed ready closes breaks sending taking run starts handsUp reports declines jobOf put reads countOf begins addresses load sends fetchOne fetch movedCount pointsBack goesOn stops ends finishes stopsRead atStatus serve lastShown times
 starred = refl

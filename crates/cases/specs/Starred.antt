@@ -1,6 +1,7 @@
 -- Document 01, "Cases, those marked * proved": each case as what is given to a fresh controller and what the last of it shows.
 use mathlib.Core.Bool.{Bool, true, false}
 use mathlib.Core.List.{List, [], _∷_, _++_, map}
+use mathlib.Core.Path.{_≡_}
 use Prim.Native.Nat.{ℕ, zero, suc}
 use lib.ListN.{replicate}
 use Rattle.address.specs.declared.number.Direction.the-variants.{Write, Read}
@@ -16,13 +17,13 @@ use Rattle.controller.specs.declared.record.Controller.{Controller}
 use Rattle.driver.specs.Run.{Report, jobOf}
 
 -- what is given to the controller
-pub data Move : Type 0 where
-  write : (register value : ℕ) → Move
-  event : (number argument : ℕ) → Move
+pub data Action : Type 0 where
+  write : (register value : ℕ) → Action
+  event : (number argument : ℕ) → Action
   -- a job with its data and script, a destination of 68 and an out record of 69 bytes
-  job : (direction : Direction) (address n : ℕ) (payload script : List ℕ) → Move
+  job : (direction : Direction) (address n : ℕ) (payload script : List ℕ) → Action
 
--- what a move shows: of a write or event the refusal number and the turn after it; of a job the answer, count, events used, bytes sent,
+-- what an action shows: of a write or event the refusal number and the turn after it; of a job the answer, count, events used, bytes sent,
 -- bytes handed up and STA after it
 pub data Shown : Type 0 where
   nothing : Shown
@@ -42,19 +43,19 @@ afterJob r = record {
   shown = worked (r .result .answer) (r .result .count) (r .result .events) (r .sent) (r .handed) (r .result .next .control .sta);
 }
 
-abbrev pub move : Move → Controller → After
-move (write register value) c = afterAccess (writeOf c register value)
-move (event number argument) c = afterAccess (eventOf c number argument)
-move (job direction address n payload script) c =
+abbrev pub act : Action → Controller → After
+act (write register value) c = afterAccess (writeOf c register value)
+act (event number argument) c = afterAccess (eventOf c number argument)
+act (job direction address n payload script) c =
     afterJob (jobOf (record { direction = direction; address = record { 0 = address }; n = n }) payload 68 69 script c)
 
--- what the last move shows, each given the record that the one before left
-unfoldable pub lastShown : List Move → Shown → Controller → Shown
+-- what the last action shows, each given the record that the one before left
+unfoldable pub lastShown : List Action → Shown → Controller → Shown
 lastShown [] shown c = shown
-lastShown (m ∷ moves) shown c = lastShown moves (move m c .shown) (move m c .next)
+lastShown (a ∷ actions) shown c = lastShown actions (act a c .shown) (act a c .next)
 
 pub record Case : Type 0 where
-  pub given : List Move
+  pub given : List Action
   pub shows : Shown
 
 -- what a case shows by the rules
@@ -67,7 +68,7 @@ times zero number argument = []
 times (suc n) number argument = number ∷ argument ∷ times n number argument
 
 -- a fresh controller is enabled by 40h
-abbrev enabled : Move
+abbrev enabled : Action
 enabled = write 3 0x40
 
 -- a) "read of 1 from 50h, pairs 01 00, 06 00, 07 5C, 04 00: answer 0, out A1, in 5C, events 4"
@@ -104,12 +105,12 @@ caseDWrite = record {
   shows = worked 0 68 71 (0xA0 ∷ replicate 68 0x33) [] false;
 }
 
--- e) "n 0" and f) "n 69 are 21"
+-- e) "n 0" and f) "n 69 are 21": the data are lent, so that n alone is wrong
 abbrev pub caseE : Case
-caseE = record { given = enabled ∷ job Read 0x50 0 [] [] ∷ []; shows = worked 21 0 0 [] [] false }
+caseE = record { given = enabled ∷ job Write 0x50 0 [] [] ∷ []; shows = worked 21 0 0 [] [] false }
 
 abbrev pub caseF : Case
-caseF = record { given = enabled ∷ job Read 0x50 69 [] [] ∷ []; shows = worked 21 0 0 [] [] false }
+caseF = record { given = enabled ∷ job Write 0x50 69 (replicate 69 0x33) [] ∷ []; shows = worked 21 0 0 [] [] false }
 
 -- g) "empty script: 27, STA left 1"
 abbrev pub caseG : Case
@@ -141,3 +142,7 @@ caseK = record {
 abbrev pub starredCases : List Case
 starredCases =
     caseA ∷ caseB ∷ caseC ∷ caseDRead ∷ caseDWrite ∷ caseE ∷ caseF ∷ caseG ∷ caseH ∷ caseI ∷ caseJ ∷ caseK ∷ []
+
+-- the one statement: each shows what the paper says
+abbrev pub StarredCases : Type 0
+StarredCases = map outcome starredCases ≡ map (λ (k : Case). k .shows) starredCases

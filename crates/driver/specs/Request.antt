@@ -22,14 +22,14 @@ badAddress address = ltb (address .0) 0x08 or ltb 0x77 (address .0)
 
 -- a write has its data lent, a read its destination: the length of the one that counts
 unfoldable pub lent : Direction → ℕ → ℕ → ℕ
-lent Write given room = given
-lent Read given room = room
+lent Write dataLength destinationLength = dataLength
+lent Read dataLength destinationLength = destinationLength
 
--- 21: "n not 1..68, address not 08h..77h, data or destination shorter than n, out record under 69, or script of odd length". The four
--- numbers are the lengths of data, destination, out record and script.
+-- 21: "n not 1..68, address not 08h..77h, data or destination shorter than n, out record under 69, or script of odd length"
 unfoldable pub malformed : Job → ℕ → ℕ → ℕ → ℕ → Bool
-malformed job given room places bytes =
-    badLength (job .n) or badAddress (job .address) or ltb (lent (job .direction) given room) (job .n) or ltb places 69 or eqb (bytes % 2) 1
+malformed job dataLength destinationLength outLength scriptLength =
+    badLength (job .n) or badAddress (job .address) or ltb (lent (job .direction) dataLength destinationLength) (job .n) or
+    ltb outLength 69 or eqb (scriptLength % 2) 1
 
 -- 22: "turn not Free, ENSIO 0, STA 1, or record not sound" is when the controller is not ready
 unfoldable pub ready : Controller → Bool

@@ -1,9 +1,9 @@
 -- Document 01, Jobs: the run over the script's pairs, and what the job gives.
 use mathlib.Core.Bool.{false}
-use mathlib.Core.List.{List, [], _∷_}
+use mathlib.Core.List.{List, [], _∷_, _++_}
 use Prim.Native.Nat.{ℕ, _+_}
 use lib.Dec.{eqb}
-use lib.ListN.{length, take, replicate}
+use lib.ListN.{length, take, drop, replicate}
 use Rattle.address.specs.Number.{bitOf}
 use Rattle.controller.specs.Event.{eventOf}
 use Rattle.controller.specs.declared.record.Controller.{Controller}
@@ -33,7 +33,7 @@ resultOf r = record {
   events = r .events;
 }
 
--- What a run over pairs gives: the result, the bytes read back and the bytes sent.
+-- What a run over pairs gives: the result, the bytes read back, and the bytes sent from here on.
 pub record Run : Type 0 where
   pub result : Result
   pub fetched : List ℕ
@@ -92,7 +92,8 @@ run job payload p (event ∷ argument ∷ rest) =
     then sending event (o .value) (if q .over then closes q else run job payload q rest)
     else breaks p 28 (o .refused)
 
--- the driver as a job begins: nothing read back, nothing taken
+-- the driver as a job begins: its first writes done, nothing read back, no pair taken. The ending noted is a placeholder, since own
+-- STOP cannot come before 50h.
 unfoldable pub starts : Job → Controller → Progress
 starts job c = record {
   controller = begins job c;
@@ -109,7 +110,7 @@ pub record Report : Type 0 where
   pub sent : List ℕ
   pub handed : List ℕ
 
--- "Handed up are the destination's first n bytes for answer 0 of a read, else none."
+-- "Handed up are the destination's first n bytes for answer 0 of a read, else none." (R is 1 for a read.)
 unfoldable pub handsUp : Job → ℕ → List ℕ → List ℕ
 handsUp job answer fetched = if eqb answer 0 and eqb (bitOf (job .direction)) 1 then take (job .n) fetched else []
 
@@ -126,14 +127,18 @@ declines c answer = record {
 
 -- A job: kind, address and n; the data; the lengths of destination and out record; the script. "21 comes before 22".
 unfoldable pub jobOf : Job → List ℕ → ℕ → ℕ → List ℕ → Controller → Report
-jobOf job payload room places script c =
-    if malformed job (length payload) room places (length script) then declines c 21
+jobOf job payload destinationLength outLength script c =
+    if malformed job (length payload) destinationLength outLength (length script) then declines c 21
     else if ready c then reports job (run job payload (starts job c) script)
     else declines c 22
 
--- A lent buffer that begins with these bytes, its rest as it was. (Bytes for which it has no place are left out; that a job sends and
--- hands up no more than fit is a theorem, `Fits`.)
+-- "The out record begins with those and its rest stays", and so the destination: a lent buffer that begins with these bytes. (Bytes for
+-- which it has no place are left out; that a job sends and hands up no more than fit is `fits`, crates/noninterference/proofs/Fits.antt.)
 unfoldable pub laid : List ℕ → List ℕ → List ℕ
 laid [] lent = lent
 laid (x ∷ xs) [] = []
 laid (x ∷ xs) (y ∷ lent) = x ∷ laid xs lent
+
+-- a lent buffer in which these bytes begin at place k, all else as it was
+unfoldable pub laidAt : ℕ → List ℕ → List ℕ → List ℕ
+laidAt k xs lent = take k lent ++ laid xs (drop k lent)

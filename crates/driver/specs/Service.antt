@@ -19,7 +19,7 @@ use Rattle.notation.specs.Choice.{if_then_else_, among}
 unfoldable pub put : Controller → ℕ → ℕ → Controller
 put c register value = (writeOf c register value) .next
 
--- what a register reads; reading registers 0 and 2 changes nothing
+-- what a register reads. A read of register 0 or 2 changes nothing; one of I2CDAT moves the hand place, see `fetchOne`
 unfoldable pub reads : Controller → ℕ → ℕ
 reads c register = (readOf c register) .value
 
@@ -28,7 +28,7 @@ unfoldable pub countOf : Direction → ℕ → ℕ
 countOf Write n = n
 countOf Read n = 128 + n
 
--- "The driver sets I2CCOUNT .., writes I2CCON 60h": register 2 with the pointer at 00h, then register 3
+-- "The driver sets I2CCOUNT .., writes I2CCON 60h": register 2 with the pointer at 00h, then register 3. "It leaves the pointer at 00h"
 unfoldable pub begins : Job → Controller → Controller
 begins job c = put (put (put c 0 0x00) 2 (countOf (job .direction) (job .n))) 3 0x60
 
@@ -65,7 +65,7 @@ fetch (suc more) i p = fetch more (i + 1) (fetchOne i p)
 unfoldable pub movedCount : Controller → ℕ
 movedCount c = reads (put c 0 0x07) 2
 
--- and the pointer back: "It leaves the pointer at 00h"
+-- the record after that: 07h was written, as above, and then the pointer goes back to 00h
 unfoldable pub pointsBack : Controller → Controller
 pointsBack c = put (put c 0 0x07) 0 0x00
 
@@ -113,11 +113,12 @@ finishes p = record {
   fetched = p .fetched;
 }
 
--- the n bytes read back at 58h, and 50h
+-- 58h, once the n bytes are read back: 50h, and own STOP will give 0 and count n
 unfoldable pub stopsRead : Job → Progress → Progress
 stopsRead job p = stops p (p .controller) Done (job .n)
 
--- what the driver does at each status. Every status that a job can meet is listed but F8h, at which the driver waits.
+-- What the driver does at each status. Every status that a job can meet is listed but F8h, at which the driver waits: AA is 0 in all that
+-- it writes, so there is no slave status; LB is 1 in a read, so no 50h; it asks for no repeated START, so no 10h.
 unfoldable pub atStatus : Job → List ℕ → ℕ → Progress → Progress
 atStatus job payload status p =
     if eqb status 0x08 then goesOn p (addresses job (p .controller))

@@ -1,4 +1,10 @@
 // The driver: one read or write job against the controller, worked over a script of bus events.
+mod accesses;
+mod checks;
+mod course;
 pub mod ending;
+mod hand_up;
 pub mod job;
+mod pairs;
 pub mod progress;
+mod service;

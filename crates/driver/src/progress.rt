@@ -1,6 +1,13 @@
 // How far a job has come.
+use crate::accesses::begin;
 use crate::ending::Ending;
+use crate::job::Job;
+use crate::job::JobResult;
 use controller::record::Controller;
+ghost use mathlib.Core.Path.{_≡_};
+ghost use Prim.Native.Nat.{_≤_, _<_};
+ghost use Rattle.driver.specs.Service.{fetchOne, fetch, stopsRead};
+ghost use Rattle.driver.specs.Run.{starts, taking, closes, resultOf};
 
 // What the driver keeps from one pair of the script to the next.
 pub struct Progress {
@@ -15,4 +22,85 @@ pub struct Progress {
     pub events: usize,
     // Bytes read back, held until own STOP.
     pub fetched: [u8; 68],
+}
+
+impl Progress {
+    // A job begins.
+    pub(crate) fn start(job: Job, c: Controller) -> Progress
+        requires { ⌜ job .n ≤ 68 ⌝ }
+        ensures { λ r. ⌜ r ≡ starts job c ⌝ }
+    {
+        let controller = begin(job, c);
+        let ending = Ending::Unfinished;
+        Progress {
+            controller,
+            over: false,
+            ending,
+            count: 0,
+            events: 0,
+            fetched: [0; 68],
+        }
+    }
+
+    // A pair is taken.
+    pub(crate) fn take_pair(mut self, c: Controller) -> Progress
+        requires { ⌜ self .events < 18446744073709551615 ⌝ }
+        ensures { λ r. ⌜ r ≡ taking self c ⌝ }
+    {
+        self.controller = c;
+        self.events += 1;
+        self
+    }
+
+    // One byte read from I2CDAT, kept at its place.
+    fn fetch_one(mut self, i: usize) -> Progress
+        requires { ⌜ i < 68 ⌝ }
+        ensures { λ r. ⌜ r ≡ fetchOne i self ⌝ }
+    {
+        let c = self.controller;
+        let reply = c.read(1);
+        let answer = reply.answer;
+        let next = reply.controller;
+        self.controller = next;
+        self.fetched[i] = answer.value();
+        self
+    }
+
+    // So many bytes read from I2CDAT.
+    fn fetch(self, n: usize) -> Progress
+        requires { ⌜ n ≤ 68 ⌝ }
+        ensures { λ r. ⌜ r ≡ fetch n 0 self ⌝ }
+    {
+        let mut p = self;
+        let mut i = 0;
+        while i < n {
+            p = p.fetch_one(i);
+            i += 1;
+        }
+        p
+    }
+
+    // 58h: the bytes read back, and a STOP asked for.
+    pub(crate) fn stop_read(self, job: Job) -> Progress
+        requires { ⌜ job .n ≤ 68 ⌝ }
+        ensures { λ r. ⌜ r ≡ stopsRead job (fetch (job .n) 0 self) ⌝ }
+    {
+        let p = self.fetch(job.n as usize);
+        let c = p.controller;
+        p.stop(c, Ending::Done, job.n)
+    }
+
+    // What the job gives beside the bytes.
+    pub(crate) fn result(self) -> JobResult
+        ensures { λ r. ⌜ resultOf r ≡ (closes self) .result ⌝ }
+    {
+        let controller = self.controller;
+        let ending = self.ending;
+        JobResult {
+            controller,
+            ending,
+            count: self.count,
+            events: self.events,
+        }
+    }
 }

@@ -7,6 +7,7 @@ use native.Mathlib.Omega.{arith}
 use borrow.Author.Tests.{ltb-false, eqb-true}
 use lib.Dec.{eqb, ltb}
 use lib.ListN.{length, take, drop, length-take}
+use lib.Seq.{take-append-seam}
 use Rattle.address.specs.Number.{bitOf}
 use Rattle.address.specs.declared.number.Direction.the-variants.{Write, Read}
 use Rattle.address.specs.declared.number.Direction.{Direction}
@@ -52,20 +53,20 @@ handed-short job answer xs room h =
 
 -- a report's bytes fit
 pub record Fits (q : Request) (r : Report) : Type 0 where
-  pub sent : length (r .sent) ≤ q .places
-  pub handed : length (r .handed) ≤ q .room
+  pub sent : length (r .sent) ≤ q .outLength
+  pub handed : length (r .handed) ≤ q .destinationLength
 
 declined : (q : Request) (c : Controller) (answer : ℕ) → Fits q (declines c answer)
 unfolding declines
 declined q c answer = record { sent = omega arith; handed = omega arith }
 
-worked : (q : Request) (c : Controller) → length (c .buffer) ≡ 68 → malformed (q .job) (length (q .payload)) (q .room) (q .places) (length (q .script)) ≡ false → ready c ≡ true → Fits q (reports (q .job) (run (q .job) (q .payload) (starts (q .job) c) (q .script)))
+worked : (q : Request) (c : Controller) → length (c .buffer) ≡ 68 → malformed (q .job) (length (q .payload)) (q .destinationLength) (q .outLength) (length (q .script)) ≡ false → ready c ≡ true → Fits q (reports (q .job) (run (q .job) (q .payload) (starts (q .job) c) (q .script)))
 unfolding reports
 worked q c l m r =
     let f = facts q m c r l .fits in
     let h = limit-high (q .job .direction) (q .job .n) (form q m .high) in
     let w = record-wide (q .job) _ _ _ _ m in
-    record { sent = omega (arith, f, h, w); handed = handed-short (q .job) _ _ (q .room) (room-wide (q .job) _ _ _ _ m) }
+    record { sent = omega (arith, f, h, w); handed = handed-short (q .job) _ _ (q .destinationLength) (room-wide (q .job) _ _ _ _ m) }
 
 -- Whatever the job, script and record, its bytes fit.
 pub fits : (q : Request) (c : Controller) → length (c .buffer) ≡ 68 → Fits q (reportOf q c)
@@ -81,3 +82,8 @@ laid-whole (x ∷ xs) [] h = absurd (never (length xs) h)
     never : (n : ℕ) → suc n ≤ 0 → ⊥
     never n e = omega (arith, e)
 laid-whole (x ∷ xs) (y ∷ lent) h = ap {B = List ℕ} (λ (l : List ℕ). x ∷ l) (laid-whole xs lent (omega (arith, h)))
+
+-- so the lent buffer's first bytes are these
+pub begins-with : (bytes lent : List ℕ) → length bytes ≤ length lent → take (length bytes) (laid bytes lent) ≡ bytes
+begins-with bytes lent h =
+    ap (take (length bytes)) (laid-whole bytes lent h) ∙ take-append-seam bytes (drop (length bytes) lent)

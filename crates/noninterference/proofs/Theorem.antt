@@ -33,7 +33,7 @@ use Rattle.driver.specs.declared.ending.Ending.the-variants.{Unfinished}
 use Rattle.driver.specs.declared.job.Job.{Job}
 use Rattle.driver.specs.declared.progress.Progress.{Progress}
 use Rattle.laws.proofs.Blind.{swap, blank, Blind}
-use Rattle.noninterference.specs.OldBytes.{Request, Item, work, resetPin, indptr, preset, i2ccon, otherStart, otherStop, addressByte, Seen, answered, worked, Step, ofAccess, ofJob, reportOf, step, observe, carried, HandsUpCarried, Carries, AllCarry, AlikeButForPlaces, NoOldBytes, Demand3}
+use Rattle.noninterference.specs.OldBytes.{Request, Item, work, resetPin, indptr, register2, i2ccon, otherStart, otherStop, addressByte, Seen, answered, worked, Step, ofAccess, ofJob, reportOf, step, observe, carried, HandsUpCarried, Carries, AllCarry, AlikeButForPlaces, NoOldBytes, Demand3}
 use Rattle.notation.proofs.Among.{among-has, within}
 use Rattle.notation.proofs.Cases.{if-true, if-false, and-true, and-left, and-right, or-left-off, or-right-off, split}
 use Rattle.notation.specs.Choice.{if_then_else_, _and_, _or_, among}
@@ -152,9 +152,9 @@ reports-same job r r′ s f =
     }
 
 -- a job that begins
-module _ (q : Request) (m : malformed (q .job) (length (q .payload)) (q .room) (q .places) (length (q .script)) ≡ false) where
+module _ (q : Request) (m : malformed (q .job) (length (q .payload)) (q .destinationLength) (q .outLength) (length (q .script)) ≡ false) where
   pub form : Formed (q .job) (q .payload)
-  form = formed (q .job) (q .payload) (q .room) (q .places) (length (q .script)) m
+  form = formed (q .job) (q .payload) (q .destinationLength) (q .outLength) (length (q .script)) m
 
   begun : (c : Controller) → ready c ≡ true → length (c .buffer) ≡ 68 → Good (q .job) (q .payload) [] 0 (starts (q .job) c)
   unfolding ready
@@ -229,7 +229,7 @@ step-same : (i : Item) (c c′ : Controller) → Twin c c′ → StepSame (step 
 step-same (work q) c c′ t = let s = job-same q c c′ t in record { twin = s .twin; seen = s .seen }
 step-same (resetPin argument) c c′ t = event-same c c′ 14 argument (among-has 14 (6 ∷ 8 ∷ [])) t
 step-same (indptr value) c c′ t = write-same c c′ 0 value t
-step-same (preset value) c c′ t = write-same c c′ 2 value t
+step-same (register2 value) c c′ t = write-same c c′ 2 value t
 step-same (i2ccon value) c c′ t = write-same c c′ 3 value t
 step-same (otherStart argument) c c′ t = event-same c c′ 2 argument (among-has 2 (6 ∷ 8 ∷ [])) t
 step-same (otherStop argument) c c′ t = event-same c c′ 3 argument (among-has 3 (6 ∷ 8 ∷ [])) t
@@ -239,7 +239,7 @@ step-carries : (i : Item) (c : Controller) → length (c .buffer) ≡ 68 → Car
 step-carries (work q) c l = job-carries q c l
 step-carries (resetPin argument) c l = tt
 step-carries (indptr value) c l = tt
-step-carries (preset value) c l = tt
+step-carries (register2 value) c l = tt
 step-carries (i2ccon value) c l = tt
 step-carries (otherStart argument) c l = tt
 step-carries (otherStop argument) c l = tt
@@ -259,7 +259,7 @@ list-same (i ∷ items) c c′ t =
 
 -- records that are equal item by item but for the places are twins
 alike-twins : (c c′ : Controller) → AlikeButForPlaces c c′ → Twin c c′
-alike-twins c c′ a = record { rest = simp (a .hand, a .moved, a .pointer, a .armed, a .registers, a .control, a .turn); places = a .places; places′ = a .places′ }
+alike-twins c c′ a = record { rest = simp (a .hand, a .moved, a .pointer, a .armed, a .registers, a .control, a .turn); places = a .bufferLength; places′ = a .bufferLength′ }
 
 -- DEMAND 3.
 pub demand-3 : Demand3

@@ -1,5 +1,9 @@
--- Demand 3 of document 01, whole, as one statement, `Demand3`, at the end of this file. That it holds is `demand-3` in
--- proofs/Theorem.antt; nothing of the proof has to be read to know what is claimed.
+-- Demand 3, "No old bytes", whole, as one statement, `Demand3`, at the end of this file. That it holds is `demand-3` in
+-- proofs/Theorem.antt; nothing of the proof has to be read to know what is claimed. Quotations are of document 01, but where `demand`
+-- stands before them: those are of the demand itself, which document 01 spells out.
+--
+-- The statement speaks of the definitions. The code's `write`, `event` and `run_job` are proved equal to them, and the caller's
+-- destination then begins with what is called `handed` here, the out record with `sent` (proofs/Fits.antt).
 use mathlib.Core.List.{List, [], _∷_}
 use mathlib.Core.Path.{_≡_}
 use Prim.Native.Nat.{ℕ}
@@ -19,11 +23,12 @@ use Rattle.notation.specs.Choice.{if_then_else_}
 pub record Request : Type 0 where
   pub job : Job
   pub payload : List ℕ
-  pub room : ℕ
-  pub places : ℕ
+  pub destinationLength : ℕ
+  pub outLength : ℕ
   pub script : List ℕ
 
--- What the list may hold: "jobs, resets, enabling writes and other masters' STARTs, STOPs and address bytes, refused ones included".
+-- What the list may hold. Demand: "the same list of jobs, resets, enabling writes and other masters' STARTs, STOPs and address bytes,
+-- refused ones included". It is wider than the paper's list: any byte to INDPTR, to register 2 whatever the pointer, and to I2CCON.
 pub data Item : Type 0 where
   -- a job with its script
   work : Request → Item
@@ -32,7 +37,7 @@ pub data Item : Type 0 where
   -- "or the software one (A5h and next 5Ah to I2CPRESET, with 05h written to INDPTR first ..)": a byte written to INDPTR, and one to
   -- register 2, which is I2CPRESET where the pointer is 05h
   indptr : ℕ → Item
-  preset : ℕ → Item
+  register2 : ℕ → Item
   -- "an enabling write is any I2CCON write with ENSIO 1": a byte written to I2CCON, with ENSIO 1 or not
   i2ccon : ℕ → Item
   -- "other masters' STARTs, STOPs and address bytes are events 2, 3 and 5", each with its argument
@@ -63,14 +68,14 @@ ofJob r = record {
 
 -- the report of a job given to a record
 abbrev pub reportOf : Request → Controller → Report
-reportOf q c = jobOf (q .job) (q .payload) (q .room) (q .places) (q .script) c
+reportOf q c = jobOf (q .job) (q .payload) (q .destinationLength) (q .outLength) (q .script) c
 
 -- each item by the rules of document 01
 abbrev pub step : Item → Controller → Step
 step (work q) c = ofJob (reportOf q c)
 step (resetPin argument) c = ofAccess (eventOf c 14 argument)
 step (indptr value) c = ofAccess (writeOf c 0 value)
-step (preset value) c = ofAccess (writeOf c 2 value)
+step (register2 value) c = ofAccess (writeOf c 2 value)
 step (i2ccon value) c = ofAccess (writeOf c 3 value)
 step (otherStart argument) c = ofAccess (eventOf c 2 argument)
 step (otherStop argument) c = ofAccess (eventOf c 3 argument)
@@ -99,7 +104,7 @@ abbrev pub Carries : Item → Controller → Type 0
 Carries (work q) c = HandsUpCarried q (reportOf q c)
 Carries (resetPin argument) c = Unit {0}
 Carries (indptr value) c = Unit {0}
-Carries (preset value) c = Unit {0}
+Carries (register2 value) c = Unit {0}
 Carries (i2ccon value) c = Unit {0}
 Carries (otherStart argument) c = Unit {0}
 Carries (otherStop argument) c = Unit {0}
@@ -111,7 +116,7 @@ AllCarry [] c = Unit {0}
 AllCarry (i ∷ items) c = Carries i c × AllCarry items (step i c .next)
 
 -- "The two starting records are any, sound or not and in any turn, that are equal but for what the 68 places hold; that is their old
--- contents."
+-- contents." (A buffer is a list here, so that it has 68 places is said as well.)
 pub record AlikeButForPlaces (c c′ : Controller) : Type 0 where
   pub hand : c .hand ≡ c′ .hand
   pub moved : c .moved ≡ c′ .moved
@@ -120,11 +125,11 @@ pub record AlikeButForPlaces (c c′ : Controller) : Type 0 where
   pub registers : c .registers ≡ c′ .registers
   pub control : c .control ≡ c′ .control
   pub turn : c .turn ≡ c′ .turn
-  pub places : length (c .buffer) ≡ 68
-  pub places′ : length (c′ .buffer) ≡ 68
+  pub bufferLength : length (c .buffer) ≡ 68
+  pub bufferLength′ : length (c′ .buffer) ≡ 68
 
--- "Two controllers .. give the same answers, counts, bytes sent and bytes handed up from the first to the last; and every finished read
--- hands up exactly what the bus carried."
+-- Demand: "Two controllers .. give the same answers, counts, bytes sent and bytes handed up from the first to the last; and every
+-- finished read hands up exactly what the bus carried."
 pub record NoOldBytes (items : List Item) (c c′ : Controller) : Type 0 where
   pub same : observe items c ≡ observe items c′
   pub carry : AllCarry items c

@@ -1,0 +1,101 @@
+-- What the proofs here cite: one turn of each small loop, and what the driver's work leaves as it was. Assumes nothing.
+use mathlib.Core.Bool.{Bool, true, false}
+use mathlib.Core.List.{List, [], _∷_}
+use mathlib.Core.Path.{_≡_, refl, sym, ap, _∙_}
+use Prim.Native.Nat.{ℕ, zero, suc, _+_, _-_, _≤_, _<_}
+use native.Mathlib.Nat.{le-of-suc-le-suc, not-suc-le-zero}
+use native.Mathlib.Numerals.{add-one}
+use native.Mathlib.Omega.{arith}
+use borrow.Author.Tests.{ltb-false}
+use lib.Dec.{T, eqb}
+use lib.ListN.{length, take, drop, getD, set, drop-of-length-le}
+use lib.Seq.{drop-cons, drop-nil, getD-take, length-take-le}
+use types.Run.{OneOf}
+use Rattle.controller.specs.Access.{readOf}
+use Rattle.controller.specs.declared.record.Controller.{Controller}
+use Rattle.driver.specs.Request.{badLength, malformed}
+use Rattle.driver.specs.Service.{put, reads, load, fetchOne, fetch, goesOn, stops, ends, finishes, stopsRead, atStatus, serve}
+use Rattle.driver.specs.declared.job.Job.{Job}
+use Rattle.driver.specs.declared.progress.Progress.{Progress}
+use Rattle.notation.proofs.Among.{has, every, same, keys-in}
+use Rattle.notation.proofs.Cases.{or-left-off, or-right-off}
+use Rattle.notation.specs.Choice.{if_then_else_, among}
+
+-- the first of what is left, and the rest
+pub drop-one : (xs : List ℕ) (i : ℕ) → i < length xs → drop i xs ≡ getD xs i 0 ∷ drop (i + 1) xs
+drop-one xs i h = drop-cons xs i 0 h ∙ ap (λ (k : ℕ). getD xs i 0 ∷ drop k xs) (sym (add-one i))
+
+-- the same of the first n
+pub take-one : (n : ℕ) (xs : List ℕ) (i : ℕ) → i < n → n ≤ length xs → drop i (take n xs) ≡ getD xs i 0 ∷ drop (i + 1) (take n xs)
+take-one n xs i h l =
+    let e = length-take-le n xs l in
+    drop-one (take n xs) i (omega arith) ∙ ap (λ (x : ℕ). x ∷ drop (i + 1) (take n xs)) (getD-take n xs i 0 h)
+
+pub take-done : (n : ℕ) (xs : List ℕ) (i : ℕ) → n ≤ i → drop i (take n xs) ≡ []
+take-done zero xs i h = drop-nil i
+take-done (suc n) xs zero h = absurd (not-suc-le-zero h)
+take-done (suc n) [] (suc i) h = refl
+take-done (suc n) (x ∷ xs) (suc i) h = take-done n xs i (le-of-suc-le-suc h)
+
+-- one byte of those that are left to write, and none
+pub load-one : (xs : List ℕ) (i : ℕ) (c : Controller) → i < length xs → load (drop i xs) c ≡ load (drop (i + 1) xs) (put c 1 (getD xs i 0))
+unfolding load
+load-one xs i c h = ap (λ (l : List ℕ). load l c) (drop-one xs i h)
+
+pub load-done : (xs : List ℕ) (i : ℕ) (c : Controller) → length xs ≤ i → load (drop i xs) c ≡ c
+unfolding load
+load-done xs i c h = ap (λ (l : List ℕ). load l c) (drop-of-length-le xs h)
+
+-- the record and byte that the read gave, kept
+pub fetched : (i : ℕ) (p : Progress) (next : Controller) (x : ℕ) → next ≡ (readOf (p .controller) 1) .next → x ≡ reads (p .controller) 1 →
+    record { controller = next; over = p .over; ending = p .ending; count = p .count; events = p .events; fetched = set (p .fetched) i x } ≡ fetchOne i p
+unfolding fetchOne
+fetched i p next x e f = cc
+
+-- one byte of those that are left to fetch, and none
+pub fetch-one : (n i : ℕ) (p : Progress) → i < n → fetch (n - i) i p ≡ fetch (n - (i + 1)) (i + 1) (fetchOne i p)
+unfolding fetch
+fetch-one n i p h =
+    let e : n - i ≡ suc (n - (i + 1)) = omega arith in
+    ap (λ (m : ℕ). fetch m i p) e
+
+pub fetch-done : (n i : ℕ) (p : Progress) → n ≤ i → fetch (n - i) i p ≡ p
+unfolding fetch
+fetch-done n i p h =
+    let e : n - i ≡ 0 = omega arith in
+    ap (λ (m : ℕ). fetch m i p) e
+
+-- an arm of a match on x, none of whose numbers is j
+pub misses : (ks : List ℕ) (x : ℕ) → OneOf ks x → (j : ℕ) → T (every (λ k. same (has (j ∷ []) k) false) ks) → eqb x j ≡ false
+unfolding among if_then_else_
+misses ks x h j t = go (eqb x j) (keys-in ks x h false (j ∷ []) t)
+  where
+    go : (b : Bool) → (if b then true else false) ≡ false → b ≡ false
+    go true e = e
+    go false e = e
+
+-- the driver's work takes no pair: the count of them stays
+either : (n : ℕ) (b : Bool) (q r : Progress) → q .events ≡ n → r .events ≡ n → (if b then q else r) .events ≡ n
+unfolding if_then_else_
+either n true q r e f = e
+either n false q r e f = f
+
+fetch-events : (more i : ℕ) (p : Progress) → (fetch more i p) .events ≡ p .events
+unfolding fetch fetchOne
+fetch-events zero i p = refl
+fetch-events (suc more) i p = fetch-events more (i + 1) (fetchOne i p)
+
+status-events : (job : Job) (payload : List ℕ) (status : ℕ) (p : Progress) → (atStatus job payload status p) .events ≡ p .events
+unfolding atStatus goesOn stops stopsRead ends
+status-events job payload status p =
+    either _ _ _ _ refl (either _ _ _ _ refl (either _ _ _ _ refl (either _ _ _ _ refl (either _ _ _ _ refl (either _ _ _ _ refl
+    (either _ _ _ _ (fetch-events (job .n) 0 p) (either _ _ _ _ refl (either _ _ _ _ refl refl))))))))
+
+pub serve-events : (job : Job) (payload : List ℕ) (event : ℕ) (p : Progress) → (serve job payload event p) .events ≡ p .events
+unfolding serve ends finishes
+serve-events job payload event p = either _ _ _ _ refl (either _ _ _ _ refl (status-events job payload (reads (p .controller) 0) p))
+
+-- a job that is not malformed has at most 68 bytes
+pub small : (job : Job) (given room places bytes : ℕ) → malformed job given room places bytes ≡ false → job .n ≤ 68
+unfolding malformed badLength
+small job given room places bytes e = ltb-false 68 (job .n) (or-right-off _ _ (or-left-off _ _ e))

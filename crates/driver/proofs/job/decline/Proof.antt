@@ -1,0 +1,14 @@
+-- `decline` is `declines`: the ending has no number beside it.
+use mathlib.Core.Path.{ap}
+use Prim.Native.Nat.{ℕ}
+use Rattle.driver.specs.Ending.{numberOf}
+use Rattle.driver.specs.Run.{resultOf, declines}
+use Rattle.driver.proofs.job.decline.Statement.{statement}
+use Rattle.driver.proofs.job.decline.Tie as tie
+
+returns : tie.Need-returns
+unfolding resultOf declines
+returns c = ap (λ (n : ℕ). record { next = c .args .controller; answer = numberOf (c .args .ending); refused = n; count = 0; events = 0 }) (c .pre)
+
+pub decline-spec : {M : Type 1} → statement M
+decline-spec = tie.close (tie.spec returns)

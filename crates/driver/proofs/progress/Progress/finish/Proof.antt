@@ -1,0 +1,12 @@
+-- `finish` is `finishes`, field by field.
+use mathlib.Core.Path.{refl}
+use Rattle.driver.specs.Service.{finishes}
+use Rattle.driver.proofs.progress.Progress.finish.Statement.{statement}
+use Rattle.driver.proofs.progress.Progress.finish.Tie as tie
+
+returns : tie.Need-returns
+unfolding finishes
+returns c = refl
+
+pub finish-spec : {M : Type 1} → statement M
+finish-spec = tie.close (tie.spec returns)

@@ -1,0 +1,96 @@
+// What the driver does to the controller: register accesses, and nothing else.
+use crate::job::Job;
+use address::number::Direction;
+use controller::record::Controller;
+ghost use mathlib.Core.Path.{_≡_};
+ghost use Prim.Native.Nat.{_≤_};
+ghost use Rattle.driver.specs.Service.{put as writes, reads as value, countOf, begins, addresses, load as loads, sends, movedCount, pointsBack};
+
+// A register written: the record after it.
+pub(crate) fn put(c: Controller, register: u8, value: u8) -> Controller
+    ensures { λ r. ⌜ r ≡ writes c register value ⌝ }
+{
+    let reply = c.write(register, value);
+    reply.controller
+}
+
+// What a register reads.
+pub(crate) fn reads(c: Controller, register: u8) -> u8
+    ensures { λ r. ⌜ r ≡ value c register ⌝ }
+{
+    let reply = c.read(register);
+    let answer = reply.answer;
+    answer.value()
+}
+
+// I2CCOUNT for n bytes: LB is set for a read.
+fn count_of(direction: Direction, n: u8) -> u8
+    requires { ⌜ n ≤ 68 ⌝ }
+    ensures { λ r. ⌜ r ≡ countOf direction n ⌝ }
+{
+    match direction {
+        Direction::Write => n,
+        Direction::Read => 128 + n,
+    }
+}
+
+// I2CCOUNT set, and a START asked for.
+pub(crate) fn begin(job: Job, c: Controller) -> Controller
+    requires { ⌜ job .n ≤ 68 ⌝ }
+    ensures { λ r. ⌜ r ≡ begins job c ⌝ }
+{
+    let direction = job.direction;
+    let pointed = put(c, 0, 0x00);
+    let counted = put(pointed, 2, count_of(direction, job.n));
+    put(counted, 3, 0x60)
+}
+
+// 08h: the address byte.
+pub(crate) fn send_address(job: Job, c: Controller) -> Controller
+    ensures { λ r. ⌜ r ≡ addresses job c ⌝ }
+{
+    let address = job.address;
+    let direction = job.direction;
+    let byte = address.byte(direction);
+    let loaded = put(c, 1, byte.0);
+    put(loaded, 3, 0x40)
+}
+
+// Bytes written to I2CDAT, one after the other.
+fn load(bytes: &[u8], start: Controller) -> Controller
+    ensures { λ r. ⌜ r ≡ loads (now (bytes .entry)) start ⌝ }
+{
+    let mut c = start;
+    let mut i = 0;
+    while i < bytes.len() {
+        c = put(c, 1, bytes[i]);
+        i += 1;
+    }
+    c
+}
+
+// 18h: the data.
+pub(crate) fn send_data(job: Job, payload: &[u8], c: Controller) -> Controller
+    ensures { λ r. ⌜ r ≡ sends job (now (payload .entry)) c ⌝ }
+{
+    let n = job.n as usize;
+    if n < payload.len() {
+        put(load(&payload[..n], c), 3, 0x41)
+    } else {
+        put(load(payload, c), 3, 0x41)
+    }
+}
+
+// 30h: how many data bytes were moved.
+pub(crate) fn moved_count(c: Controller) -> u8
+    ensures { λ r. ⌜ r ≡ movedCount c ⌝ }
+{
+    reads(put(c, 0, 0x07), 2)
+}
+
+// The pointer back at 00h after the moved count was read.
+pub(crate) fn point_back(c: Controller) -> Controller
+    ensures { λ r. ⌜ r ≡ pointsBack c ⌝ }
+{
+    put(put(c, 0, 0x07), 0, 0x00)
+}

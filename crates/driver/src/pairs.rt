@@ -1,0 +1,69 @@
+// The run over the script's pairs.
+use crate::ending::Ending;
+use crate::job::Job;
+use crate::progress::Progress;
+use crate::service::serve;
+use answer::Answer;
+ghost use mathlib.Core.Path.{_≡_};
+ghost use mathlib.Core.List.{List, _∷_};
+ghost use Prim.Native.Nat.{ℕ, _≤_};
+ghost use lib.Dec.{eqb};
+ghost use lib.ListN.{length};
+ghost use Rattle.driver.specs.Run.{closes, run as runs, laid, laidAt};
+ghost use Rattle.notation.specs.Choice.{if_then_else_};
+
+// A byte sent is put at its place in the out record. Gives the next place.
+fn note(out: &mut [u8], at: usize, event: u8, value: u8) -> usize
+    requires { ⌜ at ≤ length (now out) ⌝ }
+    ensures room { λ r. ⌜ (r ≤ length (now (out .exit))) × (length (now (out .exit)) ≡ length (now (out .entry))) ⌝ }
+    ensures noted { λ r. ⌜ ((later : List ℕ) → laidAt r later (now (out .exit)) ≡ laidAt at (if eqb event 6 then value ∷ later else later) (now (out .entry))) ⌝ }
+{
+    let sends = event == 6;
+    if sends {
+        if at < out.len() {
+            out[at] = value;
+            return at + 1;
+        }
+    }
+    at
+}
+
+// Takes pairs while the job lasts; what it breaks with is the end of the job.
+pub(crate) fn work(
+    start: Progress,
+    job: Job,
+    payload: &[u8],
+    out: &mut [u8],
+    script: &[u8],
+) -> Progress
+    requires { ⌜ (job .n ≤ 68) × (start .events ≡ 0) ⌝ }
+    ensures result { λ r. ⌜ (closes r) .result ≡ (runs job (now (payload .entry)) start (now (script .entry))) .result ⌝ }
+    ensures fetched { λ r. ⌜ r .fetched ≡ (runs job (now (payload .entry)) start (now (script .entry))) .fetched ⌝ }
+    ensures sent { λ _. ⌜ now (out .exit) ≡ laid ((runs job (now (payload .entry)) start (now (script .entry))) .sent) (now (out .entry)) ⌝ }
+{
+    let mut p = start;
+    let mut at = 0;
+    let mut i = 0;
+    let end = loop {
+        let c = p.controller;
+        if script.len() - i < 2 {
+            break p.end(c, Ending::Unfinished);
+        }
+        let event = script[i];
+        let reply = c.event(event, script[i + 1]);
+        let taken = p.take_pair(reply.controller);
+        let answer = reply.answer;
+        match answer {
+            Answer::Refused(why) => break p.end(c, Ending::Refused(why)),
+            Answer::Accepted(value) => {
+                at = note(out, at, event, value);
+                p = serve(job, payload, event, taken);
+                i += 2;
+                if p.over {
+                    break p;
+                }
+            }
+        }
+    };
+    end
+}
