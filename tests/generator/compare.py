@@ -1,19 +1,27 @@
-"""Compares the built bench program with the reference model on random traces.
+"""Compares the built programs with the reference model on random inputs.
 
-python3 compare.py BENCH [TRACES]   TRACES traces of 5,000 groups, from fixed seeds
+python3 compare.py BENCH JOB [TRACES]
+    TRACES traces of 5,000 groups and more for BENCH, then 2,000 inputs for JOB,
+    all from fixed seeds
 """
 
 import random
 import subprocess
 import sys
+from collections import Counter
 
-import model
+import bench
+import driver
+from random_jobs import job_group, job_input
 
 GROUPS = 5000
+INPUTS = 2000
+JOBS_AMONG = 0.03            # how often a group is a job, with those around it
 CONTROL = (0x40, 0x60, 0xC0, 0xC1, 0x41, 0x50, 0x70, 0xE0, 0xE1)
 STORED = (0x00, 0x01, 0x02, 0x03, 0x44, 0x45, 0x81, 0x83, 0xC4, 0xA0, 0xA1,
           0xE1, 0xA5, 0x5A)
 BYTES = (0x00, 0x01, 0xA0, 0xA1, 0xE0, 0xE1)
+ANSWERS = {0} | set(range(21, 30))       # Jobs: every answer
 
 
 def some(draw, likely):
@@ -51,24 +59,84 @@ def group(draw):
     return event(draw)
 
 
+def jobs(draw):
+    """A job or several, mostly on a controller that was made ready for it."""
+    out = b""
+    if draw.random() < 0.7:
+        out += bytes((2, 14, 0))
+        if draw.random() < 0.2:      # TE 0 or 1
+            out += bytes((1, 0, 4, 1, 2, draw.randrange(256)))
+        out += bytes((1, 3, draw.choice((0x40, 0x41, 0xC0, 0xC1))))
+    for _ in range(draw.choice((1, 1, 2, 3))):
+        out += job_group(draw)
+    return out
+
+
 def trace(seed):
     draw = random.Random(seed)
-    groups = [(4, draw.randrange(256), 0)] if seed % 3 == 0 else []
-    groups += [group(draw) for _ in range(GROUPS)]
-    return bytes(b for g in groups for b in g)
+    out = [bytes((4, draw.randrange(256), 0))] if seed % 3 == 0 else []
+    for _ in range(GROUPS):
+        among = draw.random() < JOBS_AMONG
+        out.append(jobs(draw) if among else bytes(group(draw)))
+    raw = b"".join(out)
+    if seed % 10 == 9:
+        raw = raw[:-draw.randrange(1, 60)]       # often cut short
+    assert len(raw) <= bench.LIMIT
+    return raw
+
+
+def answers(text):
+    """How often each answer stands in an output."""
+    return Counter(int(line.split()[1]) for line in text.splitlines()
+                   if line.startswith("answer "))
+
+
+def same(program, raw, want, name):
+    """Does the program print what is wanted?"""
+    printed = subprocess.run([program], input=raw, check=True,
+                             stdout=subprocess.PIPE).stdout
+    got = printed.decode(errors="replace")
+    if got == want:
+        return True
+    print(f"{name}: the program and the model differ")
+    if len(raw) < 500:
+        print("input:", raw.hex(" "))
+    end = ["(nothing more)"]
+    both = zip(got.splitlines(True) + end, want.splitlines(True) + end)
+    for line, (a, b) in enumerate(both, 1):
+        if a != b:
+            print(f"line {line}\nprogram: {a!r}\nmodel:   {b!r}")
+            break
+    return False
+
+
+def compare(program, inputs, model, name, wanted):
+    """All inputs through program and model; every wanted answer occurs."""
+    found = Counter()
+    for seed, raw in enumerate(inputs):
+        want = model(raw)
+        found += answers(want)
+        if not same(program, raw, want, f"{name} {seed}"):
+            return False
+    told = ", ".join(f"{a} {found[a]} times" for a in sorted(found))
+    print(f"{name}s: program and model agree; answers {told}")
+    assert set(found) == wanted, "every answer occurs"
+    return True
 
 
 def main(args):
-    count = int(args[1]) if len(args) > 1 else 20
-    for seed in range(count):
-        raw = trace(seed)
-        got = subprocess.run([args[0]], input=raw, check=True,
-                             stdout=subprocess.PIPE).stdout.decode()
-        if got != model.run(raw):
-            print(f"random trace {seed}: the program and the model differ")
-            return 1
-    print(f"{count * GROUPS} random groups: program and model agree")
-    return 0
+    if len(args) not in (2, 3):
+        print(__doc__)
+        return 2
+    count = int(args[2]) if len(args) == 3 else 20
+    traces = (trace(seed) for seed in range(count))
+    inputs = (job_input(random.Random(seed)) for seed in range(INPUTS))
+    print(f"{count} traces of {GROUPS} random groups, {INPUTS} random jobs")
+    fine = compare(args[0], traces, bench.run, "random trace", ANSWERS)
+    # `job` runs on a fresh controller: never 22
+    fine = fine and compare(args[1], inputs, driver.job_program,
+                            "random job", ANSWERS - {22})
+    return 0 if fine else 1
 
 
 if __name__ == "__main__":

@@ -1,7 +1,9 @@
-"""Makes the test traces (NAME.hex) and their output (NAME.expected).
+"""Makes the stored tests: inputs (NAME.hex) and their output (NAME.expected).
 
-python3 make.py DIR           writes all files into DIR
-python3 make.py --check DIR   exits 1 if a stored file differs
+python3 make.py TRACES [JOBS]           writes all files into these folders
+python3 make.py --check TRACES [JOBS]   exits 1 if a stored file differs
+
+TRACES holds those of the program `bench`, JOBS those of the program `job`.
 
 Of a long output the part that repeats is stored once: `repeat N K` says that the
 next K lines stand N times.
@@ -10,11 +12,17 @@ next K lines stand N times.
 import os
 import sys
 
+import bench
 import model
 from bad import make_bad
 from cases import make_cases
 from control import make_control
+from driver import job_program
 from events import make_events
+from job_file import JOBS
+from job_limits import make_job_limits
+from job_traces import make_job_traces
+from jobs import make_jobs
 from moves import make_moves
 from refusals import make_refusals
 from registers import make_registers
@@ -22,6 +30,13 @@ from software_reset import make_software_reset
 from starts import make_start_ff
 from trace import (
     HOSTS, SEEN_CONTROL, SEEN_EVENTS, SEEN_OFF, SEEN_REFUSALS, SEEN_STATUSES, TRACES, TURNS, parse)
+
+# Long outputs, and how many of their lines repeat
+FOLDED = {"bad-65536": 5, "bad-65540": 5, "bad-job-65536": 6,
+          "bad-job-65536-cut": 6, "bad-job-65538": 6, "bad-job-65539": 6}
+LENGTHS = {"bad-65536": 65536, "bad-65540": 65540, "bad-65540-early": 65540,
+           "bad-job-65536": 65536, "bad-job-65536-cut": 65536,
+           "bad-job-65538": 65538, "bad-job-65539": 65539}
 
 
 def check_coverage():
@@ -51,8 +66,51 @@ def folded(text, size):
     return f"repeat {times} {size}\n" + "".join(block + rest)
 
 
-def make_all():
-    """File name and contents of every stored file."""
+def found_beside(word, place, files):
+    """The numbers at a place of the first lines of jobs in stored outputs."""
+    lines = [line.split() for name, text in files.items()
+             if name.endswith(".expected") for line in text.splitlines()]
+    return {int(line[place]) for line in lines
+            if line[0] == "answer" and word in line}
+
+
+def check_answers(traces, jobs):
+    """Jobs: every answer; on its fresh controller `job` never answers 22."""
+    answers = {0} | set(range(21, 30))
+    assert found_beside("answer", 1, traces) == answers
+    assert found_beside("answer", 1, jobs) == answers - {22}
+    for files in (traces, jobs):
+        assert found_beside("refused", -1, files) == {1, 2, 8}
+    return "answers 0, 21-29 of bench, the same but 22 of job"
+
+
+def on_the_list(part):
+    """Demand 3: is a group a job, a reset, an enabling write, event 2, 3, 5?"""
+    if part[0] == bench.WRITE and part[1] == 3:
+        return part[2] & model.ENSIO != 0
+    resets = ((bench.WRITE, 0, 0x05), (bench.WRITE, 2, 0xA5),
+              (bench.WRITE, 2, 0x5A), (bench.EVENT, 14, 0))
+    return (part[0] == bench.JOB or tuple(part) in resets
+            or (part[0] == bench.EVENT and part[1] in (2, 3, 5)))
+
+
+def check_old(files):
+    """Demand 3: old contents show in the last line, the buffer, alone."""
+    one = files["jobs-old-00.expected"].splitlines()
+    other = files["jobs-old-ff.expected"].splitlines()
+    assert one[:-1] == other[:-1] and one[-1] != other[-1]
+    one = parse(files["jobs-old-00.hex"])
+    other = parse(files["jobs-old-ff.hex"])
+    assert one[:3] == bytes([4, 0x00, 0]) and other[:3] == bytes([4, 0xFF, 0])
+    assert one[3:] == other[3:]
+    k = 3
+    while k < len(one):
+        length, _ = bench.next_group(one, k)
+        assert on_the_list(one[k:k + length])
+        k += length
+
+
+def make_traces():
     make_cases()
     make_events()
     make_control()
@@ -62,20 +120,37 @@ def make_all():
     make_moves()
     make_start_ff()
     make_bad()
+    make_job_traces()
+    make_job_limits()
+
+
+def trace_files():
+    """File name and contents of every file of the folder TRACES."""
+    make_traces()
     files = {}
     for t in TRACES:
         raw = parse(t.text())
         files[t.name + ".hex"] = t.text()
-        files[t.name + ".expected"] = model.run(raw)
+        files[t.name + ".expected"] = bench.run(raw)
         if not t.name.startswith("bad-"):
             lines = files[t.name + ".expected"].splitlines(True)
-            assert len(lines) == len(raw) // 3 + 1 - (raw[0] == 4)
-            assert lines[-1] == model.buffer_line(t.c)
-    for name in ("bad-65536.expected", "bad-65540.expected"):
-        files[name] = folded(files[name], 5)
-    assert len(parse(files["bad-65536.hex"])) == 65536
-    assert len(parse(files["bad-65540.hex"])) == 65540
-    assert len(parse(files["bad-65540-early.hex"])) == 65540
+            assert len(lines) == t.printed + 1
+            assert lines[-1] == bench.buffer_line(t.c)
+    for name, size in FOLDED.items():
+        files[name + ".expected"] = folded(files[name + ".expected"], size)
+    for name, length in LENGTHS.items():
+        assert len(parse(files[name + ".hex"])) == length
+    check_old(files)
+    return files
+
+
+def job_files():
+    """File name and contents of every file of the folder JOBS."""
+    make_jobs()
+    files = {}
+    for name, text in JOBS.items():
+        files[name + ".hex"] = text
+        files[name + ".expected"] = job_program(parse(text))
     return files
 
 
@@ -96,26 +171,35 @@ def stored_differs(folder, files):
     return wrong
 
 
-def main(args):
-    check = "--check" in args
-    rest = [a for a in args if a != "--check"]
-    folder = rest[0] if rest else "."
-    files = make_all()
-    covered = check_coverage()
-    if check:
-        wrong = stored_differs(folder, files)
-        for name in wrong:
-            print("differs:", name)
-        print(f"{len(files) - len(wrong)} files as stored")
-        return 1 if wrong else 0
+def check_folder(folder, files):
+    """How many stored files differ; their names are printed."""
+    wrong = stored_differs(folder, files)
+    for name in wrong:
+        print("differs:", name)
+    print(f"{folder}: {len(files) - len(wrong)} files as stored")
+    return len(wrong)
+
+
+def write_folder(folder, files):
     os.makedirs(folder, exist_ok=True)
     for name, text in files.items():
         with open(os.path.join(folder, name), "wb") as out:
             out.write(text.encode())
     size = sum(len(text) for text in files.values())
-    print(f"{len(TRACES)} traces, {len(files)} files, {size} bytes")
-    print("covered:", covered)
+    print(f"{folder}: {len(files)} files, {size} bytes")
     return 0
+
+
+def main(args):
+    folders = [a for a in args if a != "--check"]
+    if not 1 <= len(folders) <= 2:
+        print(__doc__)
+        return 2
+    sets = [trace_files(), job_files()]
+    print(f"covered: {check_coverage()}, {check_answers(*sets)}")
+    act = check_folder if "--check" in args else write_folder
+    wrong = [act(folder, files) for folder, files in zip(folders, sets)]
+    return 1 if any(wrong) else 0
 
 
 if __name__ == "__main__":

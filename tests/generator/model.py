@@ -1,10 +1,8 @@
 """A plain reference model of the I2C controller, from the scope paper alone.
 
 Each rule stands beside a comment that names the paper's section.
-run(raw) does with a trace what the program `bench` does.
 """
 
-import sys
 from dataclasses import dataclass, field
 
 PLACES = 68  # The controller record: the buffer holds 68 bytes, 0 to 67
@@ -435,57 +433,3 @@ def byte_in(c, byte):
     else:
         give(c, 0xE0 if ack else 0xE8)
     return 0 if ack else 1
-
-
-# ---- bench -----------------------------------------------------------------
-
-LIMIT = 65536                        # traces up to 65,536 bytes
-
-
-def state_line(c, number, value):
-    """The line that a group of kind 00, 01 or 02 prints."""
-    turn = c.turn.name + (" " + c.turn.detail if c.turn.detail else "")
-    return (f"refused {number} value {value:02X} status {c.status():02X} "
-            f"control {c.control():02X} pointer {c.pointer} hand {c.hand} "
-            f"moved {c.moved} armed {c.armed} turn {turn}\n")
-
-
-def buffer_line(c):
-    return "buffer" + "".join(f" {b:02X}" for b in c.buffer) + "\n"
-
-
-def group(c, kind, first, second):
-    """One group of kind 00, 01 or 02: (refusal number, value)."""
-    if kind == 0:
-        return read(c, first)
-    if kind == 1:
-        return write(c, first, second)
-    return event(c, first, second)
-
-
-def run(raw):
-    """The output of `bench` for the trace raw."""
-    c, lines, bad = Controller(), [], None
-    data = raw[:LIMIT]
-    for k in range(0, len(data), 3):
-        part = data[k:k + 3]
-        kind = part[0]
-        if len(part) < 3 and len(raw) > LIMIT:
-            break                    # doesn't fit whole in the first 65,536
-        if len(part) < 3 or not (kind <= 2 or (kind == 4 and k == 0)):
-            bad = k                  # cut short, another kind, late 04
-            break
-        if kind == 4:
-            c.buffer = [part[1]] * PLACES
-        else:
-            lines.append(state_line(c, *group(c, *part)))
-    if bad is None and len(raw) > LIMIT:
-        bad = LIMIT
-    if bad is not None:
-        lines.append(f"bad trace at {bad}\n")
-    lines.append(buffer_line(c))
-    return "".join(lines)
-
-
-if __name__ == "__main__":
-    sys.stdout.write(run(sys.stdin.buffer.read()))

@@ -1,6 +1,9 @@
 """A trace in the making, with the model beside it, and what has been covered."""
 
+import bench
 import model
+import pairs
+from driver import print_job
 
 
 TRACES = []                  # every trace, in the order made
@@ -67,6 +70,7 @@ class Trace:
         self.lines = ["# " + title]
         self.c = model.Controller()
         self.refused = 0             # how many groups were refused so far
+        self.printed = 0             # how many lines the groups print
         TRACES.append(self)
 
     def note(self, text):
@@ -79,9 +83,10 @@ class Trace:
     def put(self, kind, a, b, show):
         c = self.c
         was, before = place(c), snapshot(c)
-        number, value = model.group(c, kind, a, b)
+        number, value = bench.group(c, kind, a, b)
         note_cover(c, was, before, kind, a, b, number)
         self.refused += number != 0
+        self.printed += 1
         text = show or ""
         if text.endswith(":"):
             text += " " + outcome(c, before, kind, a, number, value)
@@ -96,6 +101,25 @@ class Trace:
 
     def ev(self, n, a=0, show=None):
         return self.put(2, n, a, show)
+
+    def job(self, want, kind, address, n, data, script, show=""):
+        """A job that is answered as `want`; data for a write alone."""
+        before = snapshot(self.c)
+        part = bytes([bench.JOB, kind, address, n]) + bytes(data)
+        number = len(script).to_bytes(2, "little")
+        whole = part + number + pairs.flat(script)
+        assert bench.next_group(whole, 0) == (len(whole), False)
+        result = bench.job_group(self.c, whole)
+        check_job(self.c, before, result, want)
+        check_bytes(result, kind, script)
+        self.printed += 4
+        text = pairs.kind_text(kind, address, n)
+        self.raw(*part[:4], text=text + (", " + show if show else ""))
+        self.lines += pairs.data_lines(data)
+        answer = print_job(result).splitlines()[0]
+        self.raw(*number, text=f"pairs {len(script)}: {answer}")
+        self.lines += pairs.pair_lines(script)
+        return result
 
     def text(self):
         return "\n".join(self.lines) + "\n"
@@ -117,6 +141,28 @@ def note_cover(c, was, before, kind, a, b, number):
     SEEN_STATUSES.add(c.status())
     if number:
         assert snapshot(c) == before, "a refusal leaves the record"
+
+
+def check_job(c, before, result, want):
+    """Jobs: what must hold after a job."""
+    assert result.answer == want, (result.answer, want)
+    assert model.sound(c)
+    if want in (21, 22):
+        assert snapshot(c) == before, "21 and 22 leave the record"
+    else:
+        assert c.pointer == 0, "the pointer is left at 00h"
+
+
+def check_bytes(result, kind, script):
+    """Jobs: the bytes sent, and what the bus carried in a finished read."""
+    taken = script[:result.events]
+    assert len(result.sent) == sum(1 for n, _ in taken if n == 6)
+    if kind == 1 and result.answer == 0:
+        carried = script[:script.index(pairs.STOP)]
+        assert result.handed == [a for n, a in carried if n == 7]
+        assert len(result.handed) == result.count
+    else:
+        assert result.handed == []
 
 
 def parse(text):

@@ -1,5 +1,7 @@
 // The bench program: reads a trace from standard input and prints what the model does, for comparison with a bench chip.
-mod line;
+mod extent;
+mod jobs;
+mod print;
 mod state;
 mod trace;
 

@@ -1,9 +1,9 @@
 // What is printed of an answer and of the record after it.
-use crate::line::put;
-use crate::line::put_decimal;
-use crate::line::put_hex;
-use crate::line::put_word;
-use crate::line::write;
+use crate::print::print;
+use console::put::put_decimal;
+use console::put::put_hex;
+use console::put::put_listed;
+use console::put::put_word;
 use control::turn::Called;
 use control::turn::Edge;
 use control::turn::Turn;
@@ -11,7 +11,7 @@ use controller::record::Controller;
 use controller::reply::Reply;
 
 // Document 01's name of a turn.
-fn put_name(line: &mut [u8; 128], at: usize, turn: Turn) -> usize {
+fn put_name(line: &mut [u8], at: usize, turn: Turn) -> usize {
     match turn {
         Turn::Off => put_word(line, at, b"Off"),
         Turn::Host(_, _) => put_word(line, at, b"Host"),
@@ -29,7 +29,7 @@ fn put_name(line: &mut [u8; 128], at: usize, turn: Turn) -> usize {
 }
 
 // The bus condition that ended a slave reception, at A0h.
-fn put_edge(line: &mut [u8; 128], at: usize, status: u8, edge: Edge) -> usize {
+fn put_edge(line: &mut [u8], at: usize, status: u8, edge: Edge) -> usize {
     if status == 0xA0 {
         match edge {
             Edge::Stop => put_word(line, at, b" stop"),
@@ -40,14 +40,14 @@ fn put_edge(line: &mut [u8; 128], at: usize, status: u8, edge: Edge) -> usize {
     }
 }
 
-fn put_called(line: &mut [u8; 128], at: usize, called: Called) -> usize {
+fn put_called(line: &mut [u8], at: usize, called: Called) -> usize {
     match called {
         Called::Own => put_word(line, at, b" own"),
         Called::General => put_word(line, at, b" general"),
     }
 }
 
-fn put_turn(line: &mut [u8; 128], at: usize, turn: Turn) -> usize {
+fn put_turn(line: &mut [u8], at: usize, turn: Turn) -> usize {
     let next = put_name(line, at, turn);
     match turn {
         Turn::Host(status, edge) => put_edge(line, next, status, edge),
@@ -57,13 +57,13 @@ fn put_turn(line: &mut [u8; 128], at: usize, turn: Turn) -> usize {
 }
 
 // A name and a number in decimal.
-fn put_field(line: &mut [u8; 128], at: usize, name: &[u8], n: u8) -> usize {
+fn put_field(line: &mut [u8], at: usize, name: &[u8], n: u8) -> usize {
     let next = put_word(line, at, name);
-    put_decimal(line, next, n)
+    put_decimal(line, next, n as usize)
 }
 
 // A name and a byte in hexadecimal.
-fn put_byte(line: &mut [u8; 128], at: usize, name: &[u8], byte: u8) -> usize {
+fn put_byte(line: &mut [u8], at: usize, name: &[u8], byte: u8) -> usize {
     let next = put_word(line, at, name);
     put_hex(line, next, byte)
 }
@@ -75,18 +75,24 @@ fn reading(c: Controller, register: u8) -> u8 {
     answer.value()
 }
 
-// The record, from `status` to the turn.
-fn put_state(line: &mut [u8; 128], at: usize, c: Controller) -> usize {
+// The numbers of the record that no register shows at once.
+fn put_numbers(line: &mut [u8], at: usize, c: Controller) -> usize {
     let armed = if c.armed { 1 } else { 0 };
-    let turn = c.turn;
-    let at = put_byte(line, at, b"status ", reading(c, 0));
-    let at = put_byte(line, at, b" control ", reading(c, 3));
     let at = put_field(line, at, b" pointer ", c.pointer);
     let at = put_field(line, at, b" hand ", c.hand);
     let at = put_field(line, at, b" moved ", c.moved);
-    let at = put_field(line, at, b" armed ", armed);
+    put_field(line, at, b" armed ", armed)
+}
+
+// The record, from `status` to the turn, and the line's end.
+fn put_state(line: &mut [u8], at: usize, c: Controller) -> usize {
+    let turn = c.turn;
+    let at = put_byte(line, at, b"status ", reading(c, 0));
+    let at = put_byte(line, at, b" control ", reading(c, 3));
+    let at = put_numbers(line, at, c);
     let at = put_word(line, at, b" turn ");
-    put_turn(line, at, turn)
+    let at = put_turn(line, at, turn);
+    put_word(line, at, b"\n")
 }
 
 // The line for one access or event.
@@ -97,31 +103,23 @@ pub(crate) fn print_reply(reply: Reply) {
     let at = put_field(&mut line, 0, b"refused ", answer.refused());
     let at = put_byte(&mut line, at, b" value ", answer.value());
     let at = put_word(&mut line, at, b" ");
-    let at = put_state(&mut line, at, c);
-    let end = put_word(&mut line, at, b"\n");
-    write(&line, end);
+    let end = put_state(&mut line, at, c);
+    print(&line, end);
 }
 
-// Half of the buffer's line, which is longer than a line here.
-fn print_places(buffer: [u8; 68], from: usize, to: usize) {
+// The line for the record after a job.
+pub(crate) fn print_state(c: Controller) {
     let mut line = [0u8; 128];
-    let mut at = 0;
-    let mut i = from;
-    while i < to {
-        if i < 68 {
-            let next = put(&mut line, at, b' ');
-            at = put_hex(&mut line, next, buffer[i]);
-        }
-        i += 1;
-    }
-    write(&line, at);
+    let end = put_state(&mut line, 0, c);
+    print(&line, end);
 }
 
 // The line for the buffer.
 pub(crate) fn print_buffer(c: Controller) {
+    let mut line = [0u8; 256];
     let buffer = c.buffer;
-    io::write_all(libc::STDOUT_FILENO, b"buffer");
-    print_places(buffer, 0, 34);
-    print_places(buffer, 34, 68);
-    io::write_all(libc::STDOUT_FILENO, b"\n");
+    let at = put_word(&mut line, 0, b"buffer");
+    let at = put_listed(&mut line, at, &buffer);
+    let end = put_word(&mut line, at, b"\n");
+    print(&line, end);
 }

@@ -1,4 +1,7 @@
-// A trace: groups of three bytes, worked one after the other on a fresh controller.
+// A trace: groups worked one after the other on a fresh controller.
+use crate::extent::Extent;
+use crate::extent::measure;
+use crate::jobs::work_job;
 use crate::state::print_buffer;
 use crate::state::print_reply;
 use controller::record::Controller;
@@ -7,14 +10,15 @@ use controller::reply::Reply;
 // The longest trace.
 const LIMIT: usize = 65536;
 
-// How far the groups of a trace were worked.
+// How far the groups of a trace were worked, and whether the trace ends in the group there.
 struct Worked {
     controller: Controller,
     at: usize,
+    cut: bool,
 }
 
 // One group of kind 00, 01 or 02.
-fn work(c: Controller, kind: u8, place: u8, value: u8) -> Reply {
+fn work_access(c: Controller, kind: u8, place: u8, value: u8) -> Reply {
     match kind {
         0 => c.read(place),
         1 => c.write(place, value),
@@ -22,24 +26,61 @@ fn work(c: Controller, kind: u8, place: u8, value: u8) -> Reply {
     }
 }
 
+// One whole group: the record after it.
+fn work_group(c: Controller, group: &[u8]) -> Controller {
+    if group.len() < 3 {
+        return c;
+    }
+    if group[0] == 3 {
+        return work_job(c, group);
+    }
+    let reply = work_access(c, group[0], group[1], group[2]);
+    print_reply(reply);
+    reply.controller
+}
+
 // Works the groups from `from` on, up to the first that is cut short or of another kind.
 fn work_all(trace: &[u8], start: Controller, from: usize) -> Worked {
     let mut c = start;
     let mut at = from;
     while at < trace.len() {
-        if trace.len() - at < 3 {
-            break;
+        let found = measure(&trace[at..]);
+        match found {
+            Extent::Whole(size) => {
+                if size == 0 {
+                    return Worked {
+                        controller: c,
+                        at,
+                        cut: false,
+                    };
+                }
+                if trace.len() - at < size {
+                    return Worked {
+                        controller: c,
+                        at,
+                        cut: true,
+                    };
+                }
+                c = work_group(c, &trace[at..at + size]);
+                at += size;
+            }
+            Extent::Cut => return Worked {
+                controller: c,
+                at,
+                cut: true,
+            },
+            Extent::Bad => return Worked {
+                controller: c,
+                at,
+                cut: false,
+            },
         }
-        let kind = trace[at];
-        if 2 < kind {
-            break;
-        }
-        let reply = work(c, kind, trace[at + 1], trace[at + 2]);
-        print_reply(reply);
-        c = reply.controller;
-        at += 3;
     }
-    Worked { controller: c, at }
+    Worked {
+        controller: c,
+        at,
+        cut: false,
+    }
 }
 
 // The trace as far as it is looked at.
@@ -74,7 +115,7 @@ pub(crate) fn run(whole: &[u8]) {
     let worked = work_from_start(trace);
     let at = worked.at;
     if at < trace.len() {
-        if trace.len() - at < 3 && LIMIT < whole.len() {
+        if worked.cut && LIMIT < whole.len() {
             print_bad(LIMIT);
         } else {
             print_bad(at);

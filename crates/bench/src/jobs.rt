@@ -1,0 +1,41 @@
+// A job's group, worked on the controller as the groups before left it.
+use crate::extent::data_size;
+use crate::print::print;
+use crate::state::print_state;
+use address::number::Address;
+use address::number::Direction;
+use console::work::work;
+use controller::record::Controller;
+use driver::job::Job;
+
+fn direction(kind: u8) -> Direction {
+    if kind == 0 {
+        Direction::Write
+    } else {
+        Direction::Read
+    }
+}
+
+// The whole group 03 KIND ADDRESS N ..: prints the job's three lines and the state after it.
+pub(crate) fn work_job(c: Controller, group: &[u8]) -> Controller {
+    if group.len() < 4 {
+        return c;
+    }
+    let script = 6 + data_size(group[1], group[3]);
+    if group.len() < script {
+        return c;
+    }
+    let direction = direction(group[1]);
+    let address = Address(group[2]);
+    let job = Job {
+        direction,
+        address,
+        n: group[3],
+    };
+    let mut text = [0u8; 1024];
+    let worked = work(c, job, &group[4..script - 2], &group[script..], &mut text);
+    print(&text, worked.end);
+    let next = worked.controller;
+    print_state(next);
+    next
+}

@@ -1,0 +1,23 @@
+-- `put_job` puts the three lines.
+use Rattle.console.specs.Report.{jobText}
+use Rattle.console.proofs.Holds.{chain}
+use borrow.Author.Needs.{needs}
+use Rattle.console.proofs.report.put_job.Statement.{statement}
+use Rattle.console.proofs.report.put_job.Tie as tie
+
+returns : tie.Need-returns
+unfolding jobText
+returns c =
+    chain _ _ _ _ (c .before .before .before .before .before .before .before .before .before .before .before .before .put-first-line .ensures) (chain _ _ _ _ (c .before .before .before .before .before .before .before .put-bytes-line .ensures) (c .before .before .put-bytes-line2 .ensures))
+
+pub put-job-spec : {M : Type 1} → statement M
+put-job-spec =
+    tie.close
+    (tie.spec
+    (λ c κs. search needs)
+    (λ c. search needs)
+    (λ c κs. search needs)
+    (λ c. search needs)
+    (λ c κs. search needs)
+    (λ c. search needs)
+    returns)

@@ -1,0 +1,4 @@
+-- What the programs print.
+pub mod Text
+pub mod Report
+pub mod Sent

@@ -1,0 +1,2 @@
+-- The program `job`.
+pub mod Program

@@ -1,0 +1,115 @@
+// The program's input: kind, address, n, data for a write, script.
+use address::number::Address;
+use address::number::Direction;
+use console::report::put_job;
+use console::work::work;
+use controller::record::Controller;
+use driver::ending::Ending;
+use driver::job::Job;
+use driver::job::JobResult;
+ghost use mathlib.Core.Path.{_≡_};
+ghost use mathlib.Core.Bool.{false};
+ghost use Prim.Native.Nat.{_≤_, _+_};
+ghost use lib.ListN.{length, take, drop};
+ghost use Rattle.console.specs.Report.{reportText};
+ghost use Rattle.console.specs.Text.{Holds};
+ghost use Rattle.driver.specs.Ending.{numberOf};
+ghost use Rattle.driver.specs.Run.{declines, jobOf};
+ghost use Rattle.job.specs.Program.{enabled, directionFor, jobIn, dataSize, badInput, programText};
+
+// A fresh controller, enabled by 40h.
+fn enable() -> Controller
+    ensures { λ r. ⌜ r ≡ enabled ⌝ }
+{
+    let c = Controller::fresh();
+    let reply = c.write(3, 0x40);
+    reply.controller
+}
+
+// Kind 0 is a write.
+fn direction_for(kind: u8) -> Direction
+    ensures { λ r. ⌜ r ≡ directionFor kind ⌝ }
+{
+    let writes = kind == 0;
+    if writes {
+        Direction::Write
+    } else {
+        Direction::Read
+    }
+}
+
+// The job that the input asks for.
+fn job_in(input: &[u8]) -> Job
+    requires { ⌜ 3 ≤ length (now input) ⌝ }
+    ensures { λ r. ⌜ r ≡ jobIn (now (input .entry)) ⌝ }
+{
+    let direction = direction_for(input[0]);
+    let address = Address(input[1]);
+    Job {
+        direction,
+        address,
+        n: input[2],
+    }
+}
+
+// How many bytes of data the input has.
+fn data_size(input: &[u8]) -> usize
+    requires { ⌜ 3 ≤ length (now input) ⌝ }
+    ensures { λ r. ⌜ r ≡ dataSize (now (input .entry)) ⌝ }
+{
+    let writes = input[0] == 0;
+    if writes { input[2] as usize } else { 0 }
+}
+
+// The input is over 4,096 bytes, cut short or of another kind.
+fn is_bad(input: &[u8]) -> bool
+    ensures { λ r. ⌜ r ≡ badInput (now (input .entry)) ⌝ }
+{
+    let long = 4096 < input.len();
+    if long {
+        return true;
+    }
+    let headless = input.len() < 3;
+    if headless {
+        return true;
+    }
+    let strange = 1 < input[0];
+    if strange {
+        return true;
+    }
+    input.len() < 3 + data_size(input)
+}
+
+// The lines of bad input: answer 21.
+fn put_bad(text: &mut [u8]) -> usize
+    ensures { λ r. ⌜ Holds 0 (reportText (declines enabled 21)) (now (text .entry)) (now (text .exit)) r ⌝ }
+{
+    let controller = enable();
+    let ending = Ending::Malformed;
+    let result = JobResult {
+        controller,
+        ending,
+        count: 0,
+        events: 0,
+    };
+    put_job(text, 0, result, b"", b"")
+}
+
+// The job run on a fresh controller enabled by 40h, and its lines.
+fn put_run(job: Job, payload: &[u8], script: &[u8], text: &mut [u8]) -> usize
+    ensures { λ r. ⌜ Holds 0 (reportText (jobOf job (now (payload .entry)) 68 69 (now (script .entry)) enabled)) (now (text .entry)) (now (text .exit)) r ⌝ }
+{
+    let worked = work(enable(), job, payload, script, text);
+    worked.end
+}
+
+// The text printed of an input, put into lent memory. Gives its length.
+pub(crate) fn run(input: &[u8], text: &mut [u8]) -> usize
+    ensures { λ r. ⌜ Holds 0 (programText (now (input .entry))) (now (text .entry)) (now (text .exit)) r ⌝ }
+{
+    if is_bad(input) {
+        return put_bad(text);
+    }
+    let start = 3 + data_size(input);
+    put_run(job_in(input), &input[3..start], &input[start..], text)
+}
