@@ -5,3 +5,4 @@ pub mod Digits
 pub mod Pairs
 pub mod OneByteEach
 pub mod Printed
+pub mod Sizes
