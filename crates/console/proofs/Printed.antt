@@ -6,7 +6,7 @@ use Prim.Native.Nat.{ℕ, _≤_}
 use native.Mathlib.Omega.{arith}
 use borrow.Author.Tests.{eqb-true}
 use lib.Dec.{eqb}
-use lib.ListN.{length, take, drop, replicate}
+use lib.ListN.{length, take, replicate}
 use Rattle.address.specs.Number.{bitOf}
 use Rattle.console.proofs.OneByteEach.{one-byte-each}
 use Rattle.console.specs.Report.{jobText, reportText}
@@ -20,7 +20,7 @@ use Rattle.noninterference.proofs.Fits.{fits, begins-with}
 use Rattle.noninterference.proofs.Theorem.{demand-3, read-bit}
 use Rattle.noninterference.specs.OldBytes.{Request, work, AlikeButForPlaces}
 use Rattle.notation.proofs.Cases.{if-false, and-left, and-right, split}
-use Rattle.notation.specs.Choice.{if_then_else_, _and_, _or_, among}
+use Rattle.notation.specs.Choice.{_and_, _or_}
 
 -- a report that is not of a finished read hands nothing up
 abbrev HandsNothing : Job → Report → Type 0

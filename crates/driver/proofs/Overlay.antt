@@ -1,10 +1,10 @@
 -- Bytes laid over a lent buffer from place k on. Assumes nothing.
-use mathlib.Core.List.{List, [], _∷_, _++_, append-nil}
+use mathlib.Core.List.{List, [], _∷_, append-nil}
 use mathlib.Core.Path.{_≡_, refl, ap, _∙_}
 use Prim.Native.Nat.{ℕ, zero, suc, _+_, _≤_, _<_}
 use native.Mathlib.Nat.{le-of-suc-le-suc, not-suc-le-zero}
 use native.Mathlib.Numerals.{add-one}
-use lib.ListN.{length, take, drop, set, take-append-drop, drop-of-length-le}
+use lib.ListN.{length, set, take-append-drop, drop-of-length-le}
 use lib.Seq.{take-all}
 use Rattle.driver.specs.Run.{laid, laidAt}
 

@@ -1,29 +1,24 @@
 -- What the driver's register accesses leave, where a job makes them. Assumes nothing.
-use mathlib.Core.Bool.{Bool, true, false, not}
-use mathlib.Core.List.{List, [], _∷_, _++_}
-use mathlib.Core.List as list
-use mathlib.Core.Path.{_≡_, refl, sym, ap, subst, _∙_}
-use Prim.Native.Nat.{ℕ, zero, suc, _+_, _%_, _≤_, _<_}
+use mathlib.Core.Bool.{true, false}
+use mathlib.Core.List.{[], _∷_}
+use mathlib.Core.Path.{_≡_, refl, ap, _∙_}
+use Prim.Native.Nat.{ℕ, _+_, _%_, _<_}
 use native.Mathlib.Omega.{arith}
 use borrow.Author.Tests.{ne-eqb}
-use lib.Dec.{T, eqb, ltb}
-use lib.ListN.{length, take, drop, set, getD, length-set}
-use lib.Seq.{take-suc-set, take-suc, drop-cons}
+use lib.Dec.{eqb}
 use Rattle.control.specs.Flags.{flagsOf}
-use Rattle.control.specs.Turn.{free, host, wireTurns, kind, statusOf}
+use Rattle.control.specs.Turn.{wireTurns, kind, statusOf}
 use Rattle.control.specs.Writing.{response}
 use Rattle.control.specs.declared.flags.Control.{Control}
 use Rattle.control.specs.declared.turn.Turn.{Turn}
 use Rattle.control.specs.declared.writing.Response.the-variants.{Next}
 use Rattle.controller.specs.Access.{indirectAt, barsRead, barsWrite, readSound, readOf, writeSound, writeOf}
 use Rattle.controller.specs.I2ccon.{keeps, controlled, badCount, enabled, writeFlags, writeControl}
-use Rattle.controller.specs.Record.{place, sound, moveSound, withPlace, withHand, withMoved, withPointer, withArmed, withRegisters, withControl, withTurn}
-use Rattle.controller.specs.Registers.{wrote, writePointer, readData, writeData, atPointer, stored, withCount, writeAtPointer}
+use Rattle.controller.specs.Record.{place, sound, withPlace, withHand, withMoved, withPointer, withArmed, withRegisters, withControl, withTurn}
+use Rattle.controller.specs.Registers.{wrote, writePointer, readData, writeData, stored, withCount, writeAtPointer}
 use Rattle.controller.specs.Reply.{Outcome, accepts}
 use Rattle.controller.specs.declared.record.Controller.{Controller}
-use Rattle.driver.specs.Service.{put, reads, load, fetchOne, fetch}
-use Rattle.driver.specs.declared.progress.Progress.{Progress}
-use Rattle.laws.proofs.Soundness.{write-stays-sound, read-stays-sound}
+use Rattle.driver.specs.Service.{put, reads}
 use Rattle.notation.proofs.Cases.{and-no-right}
 use Rattle.notation.specs.Choice.{if_then_else_, _and_, _or_, among}
 

@@ -1,10 +1,10 @@
 -- What a job sends and hands up fits into what was lent: "The out record begins with those and its rest stays." Assumes nothing.
-use mathlib.Core.Bool.{Bool, true, false}
+use mathlib.Core.Bool.{true, false}
 use mathlib.Core.List.{List, [], _∷_, _++_}
-use mathlib.Core.Path.{_≡_, refl, sym, ap, subst, _∙_}
-use Prim.Native.Nat.{ℕ, zero, suc, _+_, _≤_, min}
+use mathlib.Core.Path.{_≡_, refl, sym, ap, _∙_}
+use Prim.Native.Nat.{ℕ, suc, _+_, _≤_}
 use native.Mathlib.Omega.{arith}
-use borrow.Author.Tests.{ltb-false, eqb-true}
+use borrow.Author.Tests.{ltb-false}
 use lib.Dec.{eqb, ltb}
 use lib.ListN.{length, take, drop, length-take}
 use lib.Seq.{take-append-seam}
@@ -17,8 +17,8 @@ use Rattle.driver.specs.Run.{Report, run, starts, handsUp, reports, declines, j
 use Rattle.driver.specs.declared.job.Job.{Job}
 use Rattle.noninterference.specs.OldBytes.{Request, reportOf}
 use Rattle.notation.proofs.Cases.{and-right, or-left-off, or-right-off, split}
-use Rattle.notation.specs.Choice.{if_then_else_, _and_, _or_}
-use Rattle.noninterference.proofs.Stage.{limit, Formed}
+use Rattle.notation.specs.Choice.{_and_, _or_}
+use Rattle.noninterference.proofs.Stage.{limit}
 use Rattle.noninterference.proofs.Theorem.{form, facts, read-bit}
 
 -- the bytes sent, at most 69

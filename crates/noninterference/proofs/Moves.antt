@@ -1,13 +1,12 @@
 -- Many bytes written to I2CDAT, and many read from it. Assumes nothing.
 use mathlib.Core.Bool.{true, false}
-use mathlib.Core.List.{List, [], _∷_, _++_, append-assoc, append-nil}
+use mathlib.Core.List.{List, [], _∷_, _++_, append-nil}
 use mathlib.Core.Path.{_≡_, refl, sym, ap, subst, _∙_}
 use Prim.Native.Nat.{ℕ, zero, suc, _+_, _≤_, _<_}
 use native.Mathlib.Omega.{arith}
 use lib.ListN.{length, take, drop, set, getD, length-set}
-use lib.Seq.{take-suc-set, take-suc, take-add, append-snoc, drop-cons}
+use lib.Seq.{take-suc-set, append-snoc, drop-cons}
 use Rattle.control.specs.Turn.{wireTurns, kind}
-use Rattle.controller.specs.Access.{readOf}
 use Rattle.controller.specs.Record.{place, sound, withHand}
 use Rattle.controller.specs.Reply.{Outcome, accepts}
 use Rattle.controller.specs.declared.record.Controller.{Controller}

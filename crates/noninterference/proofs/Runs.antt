@@ -1,5 +1,5 @@
 -- A whole run: what a finished read hands up, how many bytes are sent, and that two runs over twins give the same. Assumes nothing.
-use mathlib.Core.Bool.{Bool, true, false, true≢false, false≢true}
+use mathlib.Core.Bool.{Bool, true, false, true≢false}
 use mathlib.Core.List.{List, [], _∷_, _++_, append-nil}
 use mathlib.Core.Logic.{inl, inr}
 use mathlib.Core.Path.{_≡_, refl, sym, ap, subst, _∙_}
@@ -10,17 +10,15 @@ use lib.Dec.{eqb}
 use lib.ListN.{length, take, getD}
 use lib.Seq.{append-snoc, getD-take}
 use types.Run.{OneOf}
-use Rattle.address.specs.declared.number.Direction.the-variants.{Write, Read}
+use Rattle.address.specs.declared.number.Direction.the-variants.{Read}
 use Rattle.control.specs.Turn.{address, send, slaveSend, dataTurns, kind}
-use Rattle.control.specs.declared.turn.Turn.{Turn}
 use Rattle.controller.specs.Event.{eventOf}
-use Rattle.controller.specs.Record.{place, byteCount}
+use Rattle.controller.specs.Record.{place}
 use Rattle.controller.specs.Transfer.{cursor}
 use Rattle.controller.specs.declared.record.Controller.{Controller}
 use Rattle.driver.specs.Ending.{numberOf, besideOf}
 use Rattle.driver.specs.Run.{Run, closes, breaks, sending, taking, run}
 use Rattle.driver.specs.Service.{serve}
-use Rattle.driver.specs.declared.ending.Ending.{Ending}
 use Rattle.driver.specs.declared.job.Job.{Job}
 use Rattle.driver.specs.declared.progress.Progress.{Progress}
 use Rattle.laws.proofs.Blind.{Reading}

@@ -1,13 +1,13 @@
 -- What holds of a job between two pairs, by the turn that the controller is in: the invariant of a single run. Assumes nothing.
-use mathlib.Core.Bool.{Bool, true, false, not, true≢false, false≢true}
+use mathlib.Core.Bool.{Bool, true, false, true≢false, false≢true}
 use mathlib.Core.List.{List, [], _∷_, _++_}
 use mathlib.Core.Logic.{inl, inr}
-use mathlib.Core.Path.{_≡_, refl, sym, ap, subst, _∙_}
-use Prim.Native.Nat.{ℕ, zero, suc, _+_, _%_, _≤_, _<_}
+use mathlib.Core.Path.{_≡_, refl, sym, ap, _∙_}
+use Prim.Native.Nat.{ℕ, suc, _+_, _≤_, _<_}
 use native.Mathlib.Omega.{arith}
 use borrow.Author.Tests.{eqb-true, ltb-true}
-use lib.Dec.{T, eqb, ltb, leb}
-use lib.ListN.{length, take, getD}
+use lib.Dec.{T, eqb}
+use lib.ListN.{length, take}
 use types.Run.{OneOf}
 use Rattle.address.specs.Number.{bitOf, byteOf}
 use Rattle.address.specs.declared.number.Direction.the-variants.{Write, Read}
@@ -15,7 +15,7 @@ use Rattle.address.specs.declared.number.Direction.{Direction}
 use Rattle.control.specs.Turn.{free, busy, listen, address, send, receive, stopping, dataTurns, kind}
 use Rattle.controller.proofs.Soundness.{parts}
 use Rattle.controller.specs.Record.{place, byteCount, sound, moveSound}
-use Rattle.controller.specs.Reply.{Outcome, refuses}
+use Rattle.controller.specs.Reply.{Outcome}
 use Rattle.controller.specs.declared.record.Controller.{Controller}
 use Rattle.driver.specs.Ending.{numberOf}
 use Rattle.driver.specs.Run.{taking}
@@ -24,7 +24,7 @@ use Rattle.driver.specs.declared.job.Job.{Job}
 use Rattle.driver.specs.declared.progress.Progress.{Progress}
 use Rattle.notation.proofs.Among.{has, every, same, keys-in, within}
 use Rattle.notation.proofs.Cases.{if-true, if-false, and-left}
-use Rattle.notation.specs.Choice.{if_then_else_, _and_, among}
+use Rattle.notation.specs.Choice.{_and_, among}
 
 -- being one of these numbers, as what an arm of a match knows
 pub one-of : (ks : List ℕ) (x : ℕ) → among x ks ≡ true → OneOf ks x

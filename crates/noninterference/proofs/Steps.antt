@@ -1,12 +1,12 @@
 -- Each event keeps the invariant of a job, or ends the job. Assumes nothing.
-use mathlib.Core.Bool.{Bool, true, false, not, true≢false, false≢true}
+use mathlib.Core.Bool.{Bool, true, false, not, true≢false}
 use mathlib.Core.List.{List, [], _∷_, _++_}
 use mathlib.Core.Path.{_≡_, refl, sym, ap, subst, _∙_}
-use Prim.Native.Nat.{ℕ, zero, suc, _+_, _%_, _/_, _≤_, _<_}
+use Prim.Native.Nat.{ℕ, suc, _+_, _%_, _/_, _≤_, _<_}
 use native.Mathlib.Omega.{arith}
 use borrow.Author.Tests.{eqb-true, eqb-false, ltb-false, ne-eqb, le-ltb, eq-eqb}
-use lib.Dec.{T, eqb, ltb, leb}
-use lib.ListN.{length, take, drop, set, getD, length-set}
+use lib.Dec.{T, eqb, ltb}
+use lib.ListN.{length, take, set, length-set}
 use lib.Seq.{getD-set-same, take-suc-set, length-take-le}
 use Rattle.address.specs.Matching.{matchOf}
 use Rattle.address.specs.Number.{byteOf, directionOf}
@@ -23,18 +23,18 @@ use Rattle.control.specs.declared.turn.Edge.the-variants.{Stop}
 use Rattle.control.specs.declared.turn.Turn.the-variants as turn
 use Rattle.control.specs.declared.turn.Turn.{Turn}
 use Rattle.control.specs.declared.writing.Response.the-variants.{Next}
-use Rattle.controller.specs.Condition.{wantsBus, ownStart, otherStart, otherStop, ownStop, matches, addressed, addressByte, outbid, addressLost, dataLost, illegalEdge, dataHeld, clockHeld, idle}
-use Rattle.controller.specs.Event.{badArgument, eventSound, eventOf}
+use Rattle.controller.specs.Condition.{ownStart, otherStart, otherStop, ownStop, matches, addressed, addressByte, outbid, addressLost, dataLost, illegalEdge, dataHeld, clockHeld, idle}
+use Rattle.controller.specs.Event.{eventSound, eventOf}
 use Rattle.controller.specs.I2ccon.{keeps, badCount}
 use Rattle.controller.specs.Record.{place, byteCount, sound, withHand, withTurn, withPointer, withArmed}
 use Rattle.controller.specs.Reply.{Outcome, refuses, accepts, waitsFor, interruptsAt, gives}
 use Rattle.controller.specs.Reset.{reset}
-use Rattle.controller.specs.Transfer.{cursor, isLast, counted, acknowledgesLast, received, dataOut, addressStatus, sentDirection, byteOut, dataIn, slaveIn, byteIn}
+use Rattle.controller.specs.Transfer.{cursor, isLast, counted, acknowledgesLast, received, dataOut, addressStatus, sentDirection, byteOut, dataIn, byteIn}
 use Rattle.controller.specs.declared.record.Controller.{Controller}
 use Rattle.controller.specs.declared.record.Registers.{Registers}
 use Rattle.driver.specs.Ending.{numberOf}
 use Rattle.driver.specs.Run.{taking}
-use Rattle.driver.specs.Service.{put, reads, countOf, addresses, load, sends, fetch, movedCount, pointsBack, goesOn, stops, ends, finishes, stopsRead, atStatus, serve}
+use Rattle.driver.specs.Service.{put, countOf, addresses, load, sends, fetch, movedCount, pointsBack, goesOn, stops, ends, finishes, stopsRead, atStatus, serve}
 use Rattle.driver.specs.declared.ending.Ending.the-variants as ending
 use Rattle.driver.specs.declared.ending.Ending.{Ending}
 use Rattle.driver.specs.declared.job.Job.{Job}
@@ -45,7 +45,7 @@ use Rattle.notation.proofs.Cases.{if-true, if-false, and-left, and-right, and-n
 use Rattle.notation.specs.Choice.{if_then_else_, _and_, _or_, among}
 use Rattle.noninterference.proofs.Accesses.{controlledTo, control-written, dataWritten, data-written, pointer-written, status-read}
 use Rattle.noninterference.proofs.Moves.{load-all, fetch-all, put-sound, retake}
-use Rattle.noninterference.proofs.Stage.{apart, clash, write-no-read, limit, limit-low, waitingTurns, jobTurns, below-count, carriedAfter, sentAfter, Formed, Basic, Good, Stepped, ended, going, Step, good-waiting, good-addressing, good-sending, good-receiving, good-stopping}
+use Rattle.noninterference.proofs.Stage.{apart, clash, write-no-read, limit, limit-low, waitingTurns, jobTurns, below-count, carriedAfter, sentAfter, Formed, Good, Stepped, ended, going, Step, good-waiting, good-addressing, good-sending, good-receiving, good-stopping}
 
 -- the record after an event that gave a status
 abbrev hosted : Controller → ℕ → Controller

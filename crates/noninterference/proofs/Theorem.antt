@@ -1,11 +1,11 @@
 -- Demand 3, proved: `demand-3`. What it says is in specs/OldBytes.antt. Assumes nothing.
-use mathlib.Core.Bool.{Bool, true, false, not, true≢false, false≢true}
+use mathlib.Core.Bool.{Bool, true, false, true≢false, false≢true}
 use mathlib.Core.List.{List, [], _∷_}
 use mathlib.Core.Path.{_≡_, refl, sym, ap, subst, _∙_}
-use Prim.Native.Nat.{ℕ, suc, _+_, _%_, _≤_}
+use Prim.Native.Nat.{ℕ, suc, _≤_}
 use native.Mathlib.Omega.{arith}
 use borrow.Author.Tests.{eqb-false, eqb-true, ltb-false, eq-eqb}
-use lib.Dec.{eqb, ltb, lit≤}
+use lib.Dec.{eqb, ltb}
 use lib.ListN.{length, take, replicate, length-replicate}
 use lib.Seq.{length-take-le}
 use Rattle.address.specs.Number.{bitOf}
@@ -13,7 +13,7 @@ use Rattle.address.specs.declared.number.Direction.the-variants.{Write, Read}
 use Rattle.address.specs.declared.number.Direction.{Direction}
 use Rattle.control.proofs.Turning.{status-idle}
 use Rattle.control.specs.Flags.{flagsOf}
-use Rattle.control.specs.Turn.{off, host, free, wireTurns, kind, statusOf}
+use Rattle.control.specs.Turn.{off, host, free, wireTurns, kind}
 use Rattle.control.specs.Writing.{response}
 use Rattle.control.specs.declared.flags.Control.{Control}
 use Rattle.control.specs.declared.turn.Turn.{Turn}
@@ -25,22 +25,20 @@ use Rattle.controller.specs.Record.{sound, moveSound, withPointer, withArmed, w
 use Rattle.controller.specs.Registers.{withCount}
 use Rattle.controller.specs.Reply.{Outcome}
 use Rattle.controller.specs.declared.record.Controller.{Controller}
-use Rattle.controller.specs.declared.record.Registers.{Registers}
-use Rattle.driver.specs.Request.{badLength, badAddress, lent, malformed, ready}
-use Rattle.driver.specs.Run.{Result, Run, Report, run, starts, handsUp, reports, declines, jobOf}
+use Rattle.driver.specs.Request.{badLength, lent, malformed, ready}
+use Rattle.driver.specs.Run.{Run, Report, run, starts, handsUp, reports, declines, jobOf}
 use Rattle.driver.specs.Service.{put, countOf, begins}
 use Rattle.driver.specs.declared.ending.Ending.the-variants.{Unfinished}
 use Rattle.driver.specs.declared.job.Job.{Job}
-use Rattle.driver.specs.declared.progress.Progress.{Progress}
-use Rattle.laws.proofs.Blind.{swap, blank, Blind}
-use Rattle.noninterference.specs.OldBytes.{Request, Item, work, resetPin, indptr, register2, i2ccon, otherStart, otherStop, addressByte, Seen, answered, worked, Step, ofAccess, ofJob, reportOf, step, observe, carried, HandsUpCarried, Carries, AllCarry, AlikeButForPlaces, NoOldBytes, Demand3}
+use Rattle.laws.proofs.Blind.{Blind}
+use Rattle.noninterference.specs.OldBytes.{Request, Item, work, resetPin, indptr, register2, i2ccon, otherStart, otherStop, addressByte, Seen, answered, Step, ofAccess, ofJob, reportOf, step, observe, HandsUpCarried, Carries, AlikeButForPlaces, NoOldBytes, Demand3}
 use Rattle.notation.proofs.Among.{among-has, within}
 use Rattle.notation.proofs.Cases.{if-true, if-false, and-true, and-left, and-right, or-left-off, or-right-off, split}
 use Rattle.notation.specs.Choice.{if_then_else_, _and_, _or_, among}
 use Rattle.noninterference.proofs.Accesses.{controlledTo, control-written, pointer-written, count-written}
 use Rattle.noninterference.proofs.Moves.{put-sound}
 use Rattle.noninterference.proofs.Runs.{RunSame, RunFacts, run-facts, run-same}
-use Rattle.noninterference.proofs.Stage.{apart, Formed, Basic, Good, good-waiting, waitingTurns}
+use Rattle.noninterference.proofs.Stage.{apart, Formed, Good, good-waiting, waitingTurns}
 use Rattle.noninterference.proofs.Twin.{Twin, flip, write-alike, event-alike, twins, begins-twin, Same}
 
 -- a job that is not answered 21 is well formed
