@@ -1,4 +1,6 @@
-// What a register access or a bus event answers, and the paper's numbers for it.
+// What a register access, a bus event or a job answers, and the paper's numbers for it.
+pub mod ending;
+
 ghost use mathlib.Core.Path.{_≡_};
 ghost use Rattle.answer.specs.Number.{numberOf, refusalOf, valueOf};
 

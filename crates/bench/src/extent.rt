@@ -1,14 +1,5 @@
-// How far a group of the trace goes.
+// How far a group of the trace goes, and whether it is of a kind there is.
 ghost use Prim.Native.Nat.{_≤_};
-
-pub(crate) enum Extent {
-    // The group is whole, and has so many bytes.
-    Whole(usize),
-    // The trace ends in it.
-    Cut,
-    // It is of another kind.
-    Bad,
-}
 
 // How many data bytes a job's group has: a write's.
 pub(crate) fn data_size(kind: u8, n: u8) -> usize
@@ -24,44 +15,43 @@ fn pairs(low: u8, high: u8) -> usize
     low as usize + 256 * (high as usize)
 }
 
-// A job: 03, kind, address, n, data for a write, the number of pairs, the pairs.
-fn job_extent(rest: &[u8]) -> Extent {
-    if rest.len() < 2 {
-        return Extent::Cut;
-    }
-    if 1 < rest[1] {
-        return Extent::Bad;
-    }
+// The bytes of a job's group, as far as the trace tells: 03, kind, address, n, data for a write, the number of pairs, the pairs.
+fn job_size(rest: &[u8]) -> usize
+    ensures { λ r. ⌜ 3 ≤ r ⌝ }
+{
     if rest.len() < 4 {
-        return Extent::Cut;
+        return 4;
     }
-    let head = 4 + data_size(rest[1], rest[3]);
-    if rest.len() < head + 2 {
-        return Extent::Cut;
+    let head = 6 + data_size(rest[1], rest[3]);
+    if rest.len() < head {
+        return head;
     }
-    let size = head + 2 + 2 * pairs(rest[head], rest[head + 1]);
-    if rest.len() < size {
-        Extent::Cut
-    } else {
-        Extent::Whole(size)
-    }
+    head + 2 * pairs(rest[head - 2], rest[head - 1])
 }
 
-// The group that the rest of a trace begins with.
-pub(crate) fn measure(rest: &[u8]) -> Extent {
+// The bytes of the group that the rest of a trace begins with. Where the trace ends in the group, they are more than are left.
+pub(crate) fn group_size(rest: &[u8]) -> usize
+    ensures { λ r. ⌜ 3 ≤ r ⌝ }
+{
     if rest.len() == 0 {
-        return Extent::Cut;
+        return 3;
     }
-    let kind = rest[0];
-    if kind == 3 {
-        return job_extent(rest);
+    if rest[0] == 3 {
+        return job_size(rest);
+    }
+    3
+}
+
+// The group is of another kind, as far as the trace tells.
+pub(crate) fn is_bad(rest: &[u8]) -> bool {
+    if rest.len() < 2 {
+        return false;
+    }
+    if rest[0] == 3 {
+        return 1 < rest[1];
     }
     if rest.len() < 3 {
-        return Extent::Cut;
+        return false;
     }
-    if 2 < kind {
-        Extent::Bad
-    } else {
-        Extent::Whole(3)
-    }
+    2 < rest[0]
 }

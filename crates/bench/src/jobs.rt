@@ -8,6 +8,7 @@ use console::work::work;
 use controller::record::Controller;
 use driver::job::Job;
 
+// Kind 0 is a write.
 fn direction(kind: u8) -> Direction {
     if kind == 0 {
         Direction::Write
@@ -16,7 +17,8 @@ fn direction(kind: u8) -> Direction {
     }
 }
 
-// The whole group 03 KIND ADDRESS N ..: prints the job's three lines and the state after it.
+// The whole group 03 KIND ADDRESS N ..: prints the job's three lines and the state after it. (A group that is whole passes the two
+// tests.)
 pub(crate) fn work_job(c: Controller, group: &[u8]) -> Controller {
     if group.len() < 4 {
         return c;

@@ -40,6 +40,7 @@ fn put_edge(line: &mut [u8], at: usize, status: u8, edge: Edge) -> usize {
     }
 }
 
+// The address called, in SlaveReceive.
 fn put_called(line: &mut [u8], at: usize, called: Called) -> usize {
     match called {
         Called::Own => put_word(line, at, b" own"),
@@ -47,6 +48,7 @@ fn put_called(line: &mut [u8], at: usize, called: Called) -> usize {
     }
 }
 
+// The turn's name and what it carries.
 fn put_turn(line: &mut [u8], at: usize, turn: Turn) -> usize {
     let next = put_name(line, at, turn);
     match turn {

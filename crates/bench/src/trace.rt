@@ -1,6 +1,6 @@
 // A trace: groups worked one after the other on a fresh controller.
-use crate::extent::Extent;
-use crate::extent::measure;
+use crate::extent::group_size;
+use crate::extent::is_bad;
 use crate::jobs::work_job;
 use crate::state::print_buffer;
 use crate::state::print_reply;
@@ -10,11 +10,10 @@ use controller::reply::Reply;
 // The longest trace.
 const LIMIT: usize = 65536;
 
-// How far the groups of a trace were worked, and whether the trace ends in the group there.
+// How far the groups of a trace were worked.
 struct Worked {
     controller: Controller,
     at: usize,
-    cut: bool,
 }
 
 // One group of kind 00, 01 or 02.
@@ -44,43 +43,17 @@ fn work_all(trace: &[u8], start: Controller, from: usize) -> Worked {
     let mut c = start;
     let mut at = from;
     while at < trace.len() {
-        let found = measure(&trace[at..]);
-        match found {
-            Extent::Whole(size) => {
-                if size == 0 {
-                    return Worked {
-                        controller: c,
-                        at,
-                        cut: false,
-                    };
-                }
-                if trace.len() - at < size {
-                    return Worked {
-                        controller: c,
-                        at,
-                        cut: true,
-                    };
-                }
-                c = work_group(c, &trace[at..at + size]);
-                at += size;
-            }
-            Extent::Cut => return Worked {
-                controller: c,
-                at,
-                cut: true,
-            },
-            Extent::Bad => return Worked {
-                controller: c,
-                at,
-                cut: false,
-            },
+        let size = group_size(&trace[at..]);
+        if trace.len() - at < size {
+            break;
         }
+        if is_bad(&trace[at..]) {
+            break;
+        }
+        c = work_group(c, &trace[at..at + size]);
+        at += size;
     }
-    Worked {
-        controller: c,
-        at,
-        cut: false,
-    }
+    Worked { controller: c, at }
 }
 
 // The trace as far as it is looked at.
@@ -104,24 +77,30 @@ fn work_from_start(trace: &[u8]) -> Worked {
     work_all(trace, start, 0)
 }
 
+// The place of the first group that was not worked.
 fn print_bad(at: usize) {
     io::write_all(libc::STDOUT_FILENO, b"bad trace at ");
     io::print_decimal(libc::STDOUT_FILENO, at as u64);
     io::write_all(libc::STDOUT_FILENO, b"\n");
 }
 
+// Where the trace went wrong: at a group of another kind, at one that its end cuts, or at the limit.
+fn bad_place(trace: &[u8], at: usize, over: bool) -> usize {
+    if at < trace.len() {
+        if is_bad(&trace[at..]) {
+            return at;
+        }
+    }
+    if over { LIMIT } else { at }
+}
+
+// Works a trace and prints what it shows.
 pub(crate) fn run(whole: &[u8]) {
     let trace = within(whole);
     let worked = work_from_start(trace);
-    let at = worked.at;
-    if at < trace.len() {
-        if worked.cut && LIMIT < whole.len() {
-            print_bad(LIMIT);
-        } else {
-            print_bad(at);
-        }
-    } else if LIMIT < whole.len() {
-        print_bad(LIMIT);
+    let over = LIMIT < whole.len();
+    if worked.at < trace.len() || over {
+        print_bad(bad_place(trace, worked.at, over));
     }
     print_buffer(worked.controller);
 }

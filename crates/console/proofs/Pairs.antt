@@ -8,7 +8,7 @@ use native.Mathlib.Omega.{arith}
 use lib.Dec.{eqb}
 use lib.ListN.{length, drop, getD, length-drop}
 use Rattle.console.specs.Sent.{sentCount}
-use Rattle.driver.proofs.Steps.{drop-one}
+use Rattle.driver.proofs.Script.{drop-two}
 use Rattle.notation.proofs.Cases.{if-true, if-false}
 use Rattle.notation.specs.Choice.{if_then_else_}
 
@@ -22,12 +22,6 @@ short zero xs h = refl
 short (suc n) [] h = refl
 short (suc n) (x ∷ []) h = refl
 short (suc n) (x ∷ y ∷ xs) h = absurd (not-suc-le-zero (le-of-suc-le-suc (le-of-suc-le-suc h)))
-
-drop-two : (xs : List ℕ) (i : ℕ) → i + 1 < length xs → drop i xs ≡ getD xs i 0 ∷ getD xs (i + 1) 0 ∷ drop (i + 2) xs
-drop-two xs i h =
-    let e : i + 1 + 1 ≡ i + 2 = omega arith in
-    drop-one xs i (omega arith)
-    ∙ ap (λ (l : List ℕ). getD xs i 0 ∷ l) (drop-one xs (i + 1) h ∙ ap (λ (k : ℕ). getD xs (i + 1) 0 ∷ drop k xs) e)
 
 module _ (left : ℕ) (script : List ℕ) (i : ℕ) where
   -- no pair is left

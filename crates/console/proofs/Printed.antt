@@ -12,7 +12,7 @@ use Rattle.console.proofs.OneByteEach.{one-byte-each}
 use Rattle.console.specs.Report.{jobText, reportText}
 use Rattle.console.specs.Sent.{sentCount, handedCount}
 use Rattle.controller.specs.declared.record.Controller.{Controller}
-use Rattle.driver.specs.Ending.{numberOf}
+use Rattle.answer.specs.Ending.{numberOf}
 use Rattle.driver.specs.Run.{Report, Result, Run, run, starts, handsUp, resultOf, reports, declines, jobOf, laid}
 use Rattle.driver.specs.declared.job.Job.{Job}
 use Rattle.driver.specs.declared.job.JobResult.{JobResult}

@@ -1,7 +1,7 @@
 // Text put into lent memory: each function gives the place after what it put. What has no place is left out.
 ghost use mathlib.Core.Path.{_≡_};
 ghost use mathlib.Core.List.{[], _∷_};
-ghost use Prim.Native.Nat.{_<_, _≤_};
+ghost use Prim.Native.Nat.{_<_};
 ghost use Rattle.console.specs.Text.{digit as digitOf, hexOf, decimalOf, listed, Holds};
 
 // One byte.

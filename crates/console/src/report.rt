@@ -2,11 +2,11 @@
 use crate::put::put_decimal;
 use crate::put::put_listed;
 use crate::put::put_word;
-use driver::ending::Ending;
+use answer::ending::Ending;
 use driver::job::JobResult;
 ghost use Rattle.console.specs.Report.{beside as besideText, firstLine, bytesLine, jobText};
 ghost use Rattle.console.specs.Text.{Holds};
-ghost use Rattle.driver.specs.Ending.{numberOf, besideOf};
+ghost use Rattle.answer.specs.Ending.{numberOf, besideOf};
 ghost use Rattle.driver.specs.Run.{resultOf};
 
 // The number beside answer 28.

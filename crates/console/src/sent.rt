@@ -1,8 +1,8 @@
 // How many bytes a job sent and handed up.
-use driver::ending::Ending;
+use answer::ending::Ending;
 use driver::job::Job;
 ghost use mathlib.Core.Path.{_≡_};
-ghost use Rattle.driver.specs.Ending.{numberOf};
+ghost use Rattle.answer.specs.Ending.{numberOf};
 ghost use Rattle.console.specs.Sent.{sentCount, handedCount};
 
 // Event 6 among the first so many pairs of a script.

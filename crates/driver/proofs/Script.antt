@@ -1,4 +1,4 @@
--- One turn of the run over pairs: what a pair, or the lack of one, makes of the run's definition. Assumes nothing.
+-- One round of the run over pairs: what a pair, or the lack of one, makes of the run's definition. Assumes nothing.
 use mathlib.Core.Bool.{true, false}
 use mathlib.Core.List.{List, [], _∷_}
 use mathlib.Core.Path.{_≡_, refl, sym, ap, _∙_}
@@ -19,7 +19,7 @@ use Rattle.driver.proofs.Overlay.{none}
 use Rattle.driver.proofs.Steps.{drop-one}
 use Rattle.driver.specs.Run.{Run, closes, breaks, sending, taking, run, laid, laidAt}
 use Rattle.driver.specs.Service.{ends, serve}
-use Rattle.driver.specs.declared.ending.Ending.the-variants.{Unfinished, Refused}
+use Rattle.answer.specs.declared.ending.Ending.the-variants.{Unfinished, Refused}
 use Rattle.driver.specs.declared.job.Job.{Job}
 use Rattle.driver.specs.declared.progress.Progress.{Progress}
 use Rattle.notation.proofs.Cases.{if-true, if-false}
@@ -76,7 +76,8 @@ run-short job payload p [] h = refl
 run-short job payload p (x ∷ []) h = refl
 run-short job payload p (x ∷ y ∷ xs) h = absurd (not-suc-le-zero (le-of-suc-le-suc (le-of-suc-le-suc h)))
 
-drop-two : (xs : List ℕ) (i : ℕ) → i + 1 < length xs → drop i xs ≡ getD xs i 0 ∷ getD xs (i + 1) 0 ∷ drop (i + 2) xs
+-- the first two of what is left, and the rest
+pub drop-two : (xs : List ℕ) (i : ℕ) → i + 1 < length xs → drop i xs ≡ getD xs i 0 ∷ getD xs (i + 1) 0 ∷ drop (i + 2) xs
 drop-two xs i h =
     let e : i + 1 + 1 ≡ i + 2 = omega arith in
     drop-one xs i (omega arith)

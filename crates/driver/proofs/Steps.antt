@@ -1,4 +1,4 @@
--- What the proofs here cite: one turn of each small loop, and what the driver's work leaves as it was. Assumes nothing.
+-- What the proofs here cite: one round of each small loop, and what the driver's work leaves as it was. Assumes nothing.
 use mathlib.Core.Bool.{Bool, true, false}
 use mathlib.Core.List.{List, [], _∷_}
 use mathlib.Core.Path.{_≡_, refl, sym, ap, _∙_}

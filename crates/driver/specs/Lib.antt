@@ -1,5 +1,4 @@
 -- Document 01, Jobs.
-pub mod Ending
 pub mod Request
 pub mod Service
 pub mod Run

@@ -7,10 +7,10 @@ use lib.ListN.{length, take, drop, replicate}
 use Rattle.address.specs.Number.{bitOf}
 use Rattle.controller.specs.Event.{eventOf}
 use Rattle.controller.specs.declared.record.Controller.{Controller}
-use Rattle.driver.specs.Ending.{numberOf, besideOf}
+use Rattle.answer.specs.Ending.{numberOf, besideOf}
 use Rattle.driver.specs.Request.{malformed, ready}
 use Rattle.driver.specs.Service.{begins, serve}
-use Rattle.driver.specs.declared.ending.Ending.the-variants.{Unfinished}
+use Rattle.answer.specs.declared.ending.Ending.the-variants.{Unfinished}
 use Rattle.driver.specs.declared.job.Job.{Job}
 use Rattle.driver.specs.declared.job.JobResult.{JobResult}
 use Rattle.driver.specs.declared.progress.Progress.{Progress}
@@ -110,7 +110,7 @@ pub record Report : Type 0 where
   pub sent : List ℕ
   pub handed : List ℕ
 
--- "Handed up are the destination's first n bytes for answer 0 of a read, else none." (R is 1 for a read.)
+-- Handed up (document 01's term): "the destination's first n bytes for answer 0 of a read, else none". (R is 1 for a read.)
 unfoldable pub handsUp : Job → ℕ → List ℕ → List ℕ
 handsUp job answer fetched = if eqb answer 0 and eqb (bitOf (job .direction)) 1 then take (job .n) fetched else []
 

@@ -9,8 +9,8 @@ use Rattle.address.specs.declared.number.Direction.the-variants.{Write, Read}
 use Rattle.address.specs.declared.number.Direction.{Direction}
 use Rattle.controller.specs.Access.{readOf, writeOf}
 use Rattle.controller.specs.declared.record.Controller.{Controller}
-use Rattle.driver.specs.declared.ending.Ending.the-variants.{Done, AddressNacked, DataNacked, Lost, Fault, Reset}
-use Rattle.driver.specs.declared.ending.Ending.{Ending}
+use Rattle.answer.specs.declared.ending.Ending.the-variants.{Done, AddressNacked, DataNacked, Lost, Fault, Reset}
+use Rattle.answer.specs.declared.ending.Ending.{Ending}
 use Rattle.driver.specs.declared.job.Job.{Job}
 use Rattle.driver.specs.declared.progress.Progress.{Progress}
 use Rattle.notation.specs.Choice.{if_then_else_, among}

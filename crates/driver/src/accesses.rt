@@ -88,7 +88,7 @@ pub(crate) fn moved_count(c: Controller) -> u8
     reads(put(c, 0, 0x07), 2)
 }
 
-// The pointer back at 00h after the moved count was read.
+// The record after the moved count was read: the pointer went to 07h for it, and goes back to 00h.
 pub(crate) fn point_back(c: Controller) -> Controller
     ensures { λ r. ⌜ r ≡ pointsBack c ⌝ }
 {

@@ -1,7 +1,7 @@
 // The course of a job: it goes on, waits for own STOP, or ends.
 use crate::accesses::put;
-use crate::ending::Ending;
 use crate::progress::Progress;
+use answer::ending::Ending;
 use controller::record::Controller;
 ghost use mathlib.Core.Path.{_≡_};
 ghost use Rattle.driver.specs.Service.{goesOn, stops, ends, finishes};

@@ -4,7 +4,7 @@ use crate::progress::Progress;
 ghost use mathlib.Core.Path.{_≡_};
 ghost use Prim.Native.Nat.{_≤_};
 ghost use lib.ListN.{take};
-ghost use Rattle.driver.specs.Ending.{numberOf};
+ghost use Rattle.answer.specs.Ending.{numberOf};
 ghost use Rattle.driver.specs.Run.{handsUp, laid};
 
 // The first n of these bytes, put at the start of the destination.

@@ -1,16 +1,16 @@
 // A job, and what it gives.
 use crate::checks::is_malformed;
 use crate::checks::is_ready;
-use crate::ending::Ending;
 use crate::hand_up::hand_up;
 use crate::pairs::work;
 use crate::progress::Progress;
 use address::number::Address;
 use address::number::Direction;
+use answer::ending::Ending;
 use controller::record::Controller;
 ghost use mathlib.Core.Path.{_≡_};
 ghost use lib.ListN.{length};
-ghost use Rattle.driver.specs.Ending.{numberOf, besideOf};
+ghost use Rattle.answer.specs.Ending.{numberOf, besideOf};
 ghost use Rattle.driver.specs.Run.{jobOf, resultOf, declines, laid};
 
 // Write or read, to or from this address, this many bytes.

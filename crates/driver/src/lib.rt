@@ -2,7 +2,6 @@
 mod accesses;
 mod checks;
 mod course;
-pub mod ending;
 mod hand_up;
 pub mod job;
 mod pairs;

@@ -1,9 +1,9 @@
 // The run over the script's pairs.
-use crate::ending::Ending;
 use crate::job::Job;
 use crate::progress::Progress;
 use crate::service::serve;
 use answer::Answer;
+use answer::ending::Ending;
 ghost use mathlib.Core.Path.{_≡_};
 ghost use mathlib.Core.List.{List, _∷_};
 ghost use Prim.Native.Nat.{ℕ, _≤_};

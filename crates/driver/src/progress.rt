@@ -1,8 +1,8 @@
 // How far a job has come.
 use crate::accesses::begin;
-use crate::ending::Ending;
 use crate::job::Job;
 use crate::job::JobResult;
+use answer::ending::Ending;
 use controller::record::Controller;
 ghost use mathlib.Core.Path.{_≡_};
 ghost use Prim.Native.Nat.{_≤_, _<_};

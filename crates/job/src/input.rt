@@ -1,19 +1,17 @@
 // The program's input: kind, address, n, data for a write, script.
 use address::number::Address;
 use address::number::Direction;
+use answer::ending::Ending;
 use console::report::put_job;
 use console::work::work;
 use controller::record::Controller;
-use driver::ending::Ending;
 use driver::job::Job;
 use driver::job::JobResult;
 ghost use mathlib.Core.Path.{_≡_};
-ghost use mathlib.Core.Bool.{false};
-ghost use Prim.Native.Nat.{_≤_, _+_};
-ghost use lib.ListN.{length, take, drop};
+ghost use Prim.Native.Nat.{_≤_};
+ghost use lib.ListN.{length};
 ghost use Rattle.console.specs.Report.{reportText};
 ghost use Rattle.console.specs.Text.{Holds};
-ghost use Rattle.driver.specs.Ending.{numberOf};
 ghost use Rattle.driver.specs.Run.{declines, jobOf};
 ghost use Rattle.job.specs.Program.{enabled, directionFor, jobIn, dataSize, badInput, programText};
 

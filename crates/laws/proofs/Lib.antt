@@ -6,4 +6,3 @@ pub mod KeptEvents
 pub mod KeptAccesses
 pub mod Soundness
 pub mod Status
-pub mod Blind

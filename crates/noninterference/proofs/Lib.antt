@@ -1,4 +1,5 @@
 -- Demand 3, proved.
+pub mod Blind
 pub mod Twin
 pub mod Accesses
 pub mod Moves

@@ -16,12 +16,12 @@ use Rattle.controller.specs.Event.{eventOf}
 use Rattle.controller.specs.Record.{place}
 use Rattle.controller.specs.Transfer.{cursor}
 use Rattle.controller.specs.declared.record.Controller.{Controller}
-use Rattle.driver.specs.Ending.{numberOf, besideOf}
+use Rattle.answer.specs.Ending.{numberOf, besideOf}
 use Rattle.driver.specs.Run.{Run, closes, breaks, sending, taking, run}
 use Rattle.driver.specs.Service.{serve}
 use Rattle.driver.specs.declared.job.Job.{Job}
 use Rattle.driver.specs.declared.progress.Progress.{Progress}
-use Rattle.laws.proofs.Blind.{Reading}
+use Rattle.noninterference.proofs.Blind.{Reading}
 use Rattle.laws.proofs.Soundness.{event-stays-sound}
 use Rattle.noninterference.specs.OldBytes.{carried}
 use Rattle.notation.proofs.Among.{has, among-has, within}

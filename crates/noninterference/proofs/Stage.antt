@@ -17,7 +17,7 @@ use Rattle.controller.proofs.Soundness.{parts}
 use Rattle.controller.specs.Record.{place, byteCount, sound, moveSound}
 use Rattle.controller.specs.Reply.{Outcome}
 use Rattle.controller.specs.declared.record.Controller.{Controller}
-use Rattle.driver.specs.Ending.{numberOf}
+use Rattle.answer.specs.Ending.{numberOf}
 use Rattle.driver.specs.Run.{taking}
 use Rattle.driver.specs.Service.{countOf, serve}
 use Rattle.driver.specs.declared.job.Job.{Job}

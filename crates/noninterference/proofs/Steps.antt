@@ -32,11 +32,11 @@ use Rattle.controller.specs.Reset.{reset}
 use Rattle.controller.specs.Transfer.{cursor, isLast, counted, acknowledgesLast, received, dataOut, addressStatus, sentDirection, byteOut, dataIn, byteIn}
 use Rattle.controller.specs.declared.record.Controller.{Controller}
 use Rattle.controller.specs.declared.record.Registers.{Registers}
-use Rattle.driver.specs.Ending.{numberOf}
+use Rattle.answer.specs.Ending.{numberOf}
 use Rattle.driver.specs.Run.{taking}
 use Rattle.driver.specs.Service.{put, countOf, addresses, load, sends, fetch, movedCount, pointsBack, goesOn, stops, ends, finishes, stopsRead, atStatus, serve}
-use Rattle.driver.specs.declared.ending.Ending.the-variants as ending
-use Rattle.driver.specs.declared.ending.Ending.{Ending}
+use Rattle.answer.specs.declared.ending.Ending.the-variants as ending
+use Rattle.answer.specs.declared.ending.Ending.{Ending}
 use Rattle.driver.specs.declared.job.Job.{Job}
 use Rattle.driver.specs.declared.progress.Progress.{Progress}
 use Rattle.laws.proofs.Addresses.{direction-back, silent-without-aa}

@@ -28,9 +28,9 @@ use Rattle.controller.specs.declared.record.Controller.{Controller}
 use Rattle.driver.specs.Request.{badLength, lent, malformed, ready}
 use Rattle.driver.specs.Run.{Run, Report, run, starts, handsUp, reports, declines, jobOf}
 use Rattle.driver.specs.Service.{put, countOf, begins}
-use Rattle.driver.specs.declared.ending.Ending.the-variants.{Unfinished}
+use Rattle.answer.specs.declared.ending.Ending.the-variants.{Unfinished}
 use Rattle.driver.specs.declared.job.Job.{Job}
-use Rattle.laws.proofs.Blind.{Blind}
+use Rattle.noninterference.proofs.Blind.{Blind}
 use Rattle.noninterference.specs.OldBytes.{Request, Item, work, resetPin, indptr, register2, i2ccon, otherStart, otherStop, addressByte, Seen, answered, Step, ofAccess, ofJob, reportOf, step, observe, HandsUpCarried, Carries, AlikeButForPlaces, NoOldBytes, Demand3}
 use Rattle.notation.proofs.Among.{among-has, within}
 use Rattle.notation.proofs.Cases.{if-true, if-false, and-true, and-left, and-right, or-left-off, or-right-off, split}
@@ -137,7 +137,7 @@ declines-same : (c c′ : Controller) (answer : ℕ) → Twin c c′ → ReportS
 unfolding declines
 declines-same c c′ answer t = record { twin = t; seen = refl }
 
--- a report's seven parts
+-- a report's six parts that are compared
 seen-same : (r r′ : Report) → r .result .answer ≡ r′ .result .answer → r .result .refused ≡ r′ .result .refused → r .result .count ≡ r′ .result .count → r .result .events ≡ r′ .result .events → r .sent ≡ r′ .sent → r .handed ≡ r′ .handed → ofJob r .seen ≡ ofJob r′ .seen
 seen-same r r′ a b c d e f = simp (a, b, c, d, e, f)
 

@@ -11,10 +11,10 @@ use Rattle.controller.specs.Reply.{Outcome}
 use Rattle.controller.specs.declared.record.Controller.{Controller}
 use Rattle.driver.specs.Run.{taking}
 use Rattle.driver.specs.Service.{put, reads, begins, addresses, load, sends, fetchOne, fetch, movedCount, pointsBack, goesOn, stops, ends, finishes, stopsRead, atStatus, serve}
-use Rattle.driver.specs.declared.ending.Ending.{Ending}
+use Rattle.answer.specs.declared.ending.Ending.{Ending}
 use Rattle.driver.specs.declared.job.Job.{Job}
 use Rattle.driver.specs.declared.progress.Progress.{Progress}
-use Rattle.laws.proofs.Blind.{swap, blank, Blind, Leaves, Reading, write-blind, event-blind, read-blind, fetch-blind}
+use Rattle.noninterference.proofs.Blind.{swap, blank, Blind, Leaves, Reading, write-blind, event-blind, read-blind, fetch-blind}
 use Rattle.notation.specs.Choice.{if_then_else_, among}
 
 pub record Twin (c c′ : Controller) : Type 0 where

@@ -1,4 +1,4 @@
--- `put_listed` puts the bytes: at each turn the text holds the first i of them.
+-- `put_listed` puts the bytes: at each round the text holds the first i of them.
 use mathlib.Core.Path.{sym, ap}
 use Prim.Native.Nat.{_≤_, _-_}
 use native.Mathlib.Omega.{arith}

@@ -1,4 +1,4 @@
--- `put_word` puts the word: at each turn the text holds its first i bytes.
+-- `put_word` puts the word: at each round the text holds its first i bytes.
 use Prim.Native.Nat.{_≤_, _-_}
 use native.Mathlib.Omega.{arith}
 use borrow.Author.Needs.{needs}

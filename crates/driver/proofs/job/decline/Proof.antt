@@ -1,7 +1,7 @@
 -- `decline` is `declines`: the ending has no number beside it.
 use mathlib.Core.Path.{ap}
 use Prim.Native.Nat.{ℕ}
-use Rattle.driver.specs.Ending.{numberOf}
+use Rattle.answer.specs.Ending.{numberOf}
 use Rattle.driver.specs.Run.{resultOf, declines}
 use Rattle.driver.proofs.job.decline.Statement.{statement}
 use Rattle.driver.proofs.job.decline.Tie as tie

@@ -1,7 +1,7 @@
 -- `number` is `numberOf`: each arm names the ending.
 use borrow.Author.Needs.{needs}
-use Rattle.driver.proofs.ending.Ending.number.Statement.{statement}
-use Rattle.driver.proofs.ending.Ending.number.Tie as tie
+use Rattle.answer.proofs.ending.Ending.number.Statement.{statement}
+use Rattle.answer.proofs.ending.Ending.number.Tie as tie
 
 pub number-spec : {M : Type 1} → statement M
 number-spec =

@@ -1,7 +1,7 @@
 // What a job is answered, and the paper's numbers for it.
-use answer::Refusal;
+use crate::Refusal;
 ghost use mathlib.Core.Path.{_≡_};
-ghost use Rattle.driver.specs.Ending.{numberOf, besideOf};
+ghost use Rattle.answer.specs.Ending.{numberOf, besideOf};
 
 pub enum Ending {
     // Done, after own STOP.
