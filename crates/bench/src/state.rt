@@ -1,14 +1,14 @@
 // What is printed of an answer and of the record after it.
 use crate::print::print;
-use console::put::put_decimal;
-use console::put::put_hex;
-use console::put::put_listed;
-use console::put::put_word;
 use control::turn::Called;
 use control::turn::Edge;
 use control::turn::Turn;
 use controller::record::Controller;
 use controller::reply::Reply;
+use text::put::put_decimal;
+use text::put::put_hex;
+use text::put::put_listed;
+use text::put::put_word;
 
 // Document 01's name of a turn.
 fn put_name(line: &mut [u8], at: usize, turn: Turn) -> usize {

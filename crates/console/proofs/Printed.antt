@@ -13,7 +13,8 @@ use Rattle.console.specs.Report.{jobText, reportText}
 use Rattle.console.specs.Sent.{sentCount, handedCount}
 use Rattle.controller.specs.declared.record.Controller.{Controller}
 use Rattle.answer.specs.Ending.{numberOf}
-use Rattle.driver.specs.Run.{Report, Result, Run, run, starts, handsUp, resultOf, reports, declines, jobOf, laid}
+use Rattle.driver.specs.Run.{Report, Result, Run, run, starts, handsUp, resultOf, reports, declines, jobOf}
+use Rattle.notation.specs.Overlay.{laid}
 use Rattle.driver.specs.declared.job.Job.{Job}
 use Rattle.driver.specs.declared.job.JobResult.{JobResult}
 use Rattle.noninterference.proofs.Fits.{fits, begins-with}

@@ -6,7 +6,7 @@ use native.Mathlib.Omega.{arith}
 use lib.Dec.{eqb, ltb}
 use lib.ListN.{length, length-append}
 use Rattle.console.specs.Report.{answerWord, countWord, eventsWord, refusedWord, outWord, inWord, newline, number, beside, firstLine, bytesLine, jobText, reportText}
-use Rattle.console.specs.Text.{digit, hexOf, decimalOf, listed}
+use Rattle.text.specs.Text.{digit, hexOf, decimalOf, listed}
 use Rattle.controller.specs.declared.record.Controller.{Controller}
 use Rattle.driver.specs.Run.{Result, Report, jobOf}
 use Rattle.driver.specs.declared.job.Job.{Job}

@@ -1,4 +1,3 @@
 -- What the programs print.
-pub mod Text
 pub mod Report
 pub mod Sent

@@ -2,7 +2,7 @@
 use mathlib.Core.List.{List, [], _∷_, _++_}
 use Prim.Native.Nat.{ℕ}
 use lib.Dec.{eqb}
-use Rattle.console.specs.Text.{decimalOf, listed}
+use Rattle.text.specs.Text.{decimalOf, listed}
 use Rattle.driver.specs.Run.{Result, Report as JobReport}
 use Rattle.notation.specs.Choice.{if_then_else_}
 

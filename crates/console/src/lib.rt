@@ -1,5 +1,4 @@
-// Text that the programs print, built in memory that the caller lends.
-pub mod put;
+// The text of a job, which both programs print.
 pub mod report;
-pub mod sent;
+mod sent;
 pub mod work;

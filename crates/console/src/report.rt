@@ -1,11 +1,11 @@
 // The three lines of a job.
-use crate::put::put_decimal;
-use crate::put::put_listed;
-use crate::put::put_word;
 use answer::ending::Ending;
 use driver::job::JobResult;
+use text::put::put_decimal;
+use text::put::put_listed;
+use text::put::put_word;
 ghost use Rattle.console.specs.Report.{beside as besideText, firstLine, bytesLine, jobText};
-ghost use Rattle.console.specs.Text.{Holds};
+ghost use Rattle.text.specs.Text.{Holds};
 ghost use Rattle.answer.specs.Ending.{numberOf, besideOf};
 ghost use Rattle.driver.specs.Run.{resultOf};
 

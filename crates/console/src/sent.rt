@@ -6,7 +6,7 @@ ghost use Rattle.answer.specs.Ending.{numberOf};
 ghost use Rattle.console.specs.Sent.{sentCount, handedCount};
 
 // Event 6 among the first so many pairs of a script.
-pub fn count_sent(script: &[u8], events: usize) -> usize
+pub(crate) fn count_sent(script: &[u8], events: usize) -> usize
     ensures { λ r. ⌜ r ≡ sentCount events (now (script .entry)) ⌝ }
 {
     let mut count = 0;
@@ -27,7 +27,7 @@ pub fn count_sent(script: &[u8], events: usize) -> usize
 }
 
 // The bytes that a job with this answer hands up.
-pub fn count_handed(job: Job, ending: Ending) -> usize
+pub(crate) fn count_handed(job: Job, ending: Ending) -> usize
     ensures { λ r. ⌜ r ≡ handedCount job (numberOf ending) ⌝ }
 {
     let done = ending.number() == 0;

@@ -7,7 +7,7 @@ use driver::job::Job;
 use driver::job::run_job;
 ghost use mathlib.Core.Path.{_≡_};
 ghost use Rattle.console.specs.Report.{reportText};
-ghost use Rattle.console.specs.Text.{Holds};
+ghost use Rattle.text.specs.Text.{Holds};
 ghost use Rattle.driver.specs.Run.{jobOf};
 
 // The record after a job, and the length of its text.

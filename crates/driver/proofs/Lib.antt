@@ -1,4 +1,3 @@
 -- Laws that the proofs here cite.
-pub mod Overlay
 pub mod Steps
 pub mod Script

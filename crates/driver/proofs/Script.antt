@@ -15,9 +15,10 @@ use Rattle.answer.specs.declared.Refusal.{Refusal}
 use Rattle.controller.specs.Event.{eventOf}
 use Rattle.controller.specs.Reply.{Outcome, outcomeOf}
 use Rattle.controller.specs.declared.reply.Reply.{Reply}
-use Rattle.driver.proofs.Overlay.{none}
+use Rattle.notation.proofs.Overlay.{none}
 use Rattle.driver.proofs.Steps.{drop-one}
-use Rattle.driver.specs.Run.{Run, closes, breaks, sending, taking, run, laid, laidAt}
+use Rattle.driver.specs.Run.{Run, closes, breaks, sending, taking, run}
+use Rattle.notation.specs.Overlay.{laid, laidAt}
 use Rattle.driver.specs.Service.{ends, serve}
 use Rattle.answer.specs.declared.ending.Ending.the-variants.{Unfinished, Refused}
 use Rattle.driver.specs.declared.job.Job.{Job}

@@ -1,9 +1,9 @@
 -- Document 01, Jobs: the run over the script's pairs, and what the job gives.
 use mathlib.Core.Bool.{false}
-use mathlib.Core.List.{List, [], _∷_, _++_}
+use mathlib.Core.List.{List, [], _∷_}
 use Prim.Native.Nat.{ℕ, _+_}
 use lib.Dec.{eqb}
-use lib.ListN.{length, take, drop, replicate}
+use lib.ListN.{length, take, replicate}
 use Rattle.address.specs.Number.{bitOf}
 use Rattle.controller.specs.Event.{eventOf}
 use Rattle.controller.specs.declared.record.Controller.{Controller}
@@ -131,14 +131,3 @@ jobOf job payload destinationLength outLength script c =
     if malformed job (length payload) destinationLength outLength (length script) then declines c 21
     else if ready c then reports job (run job payload (starts job c) script)
     else declines c 22
-
--- "The out record begins with those and its rest stays", and so the destination: a lent buffer that begins with these bytes. (Bytes for
--- which it has no place are left out; that a job sends and hands up no more than fit is `fits`, crates/noninterference/proofs/Fits.antt.)
-unfoldable pub laid : List ℕ → List ℕ → List ℕ
-laid [] lent = lent
-laid (x ∷ xs) [] = []
-laid (x ∷ xs) (y ∷ lent) = x ∷ laid xs lent
-
--- a lent buffer in which these bytes begin at place k, all else as it was
-unfoldable pub laidAt : ℕ → List ℕ → List ℕ → List ℕ
-laidAt k xs lent = take k lent ++ laid xs (drop k lent)

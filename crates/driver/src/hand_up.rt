@@ -5,7 +5,8 @@ ghost use mathlib.Core.Path.{_≡_};
 ghost use Prim.Native.Nat.{_≤_};
 ghost use lib.ListN.{take};
 ghost use Rattle.answer.specs.Ending.{numberOf};
-ghost use Rattle.driver.specs.Run.{handsUp, laid};
+ghost use Rattle.driver.specs.Run.{handsUp};
+ghost use Rattle.notation.specs.Overlay.{laid};
 
 // The first n of these bytes, put at the start of the destination.
 fn copy_first(bytes: [u8; 68], n: usize, destination: &mut [u8])

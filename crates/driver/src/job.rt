@@ -11,7 +11,8 @@ use controller::record::Controller;
 ghost use mathlib.Core.Path.{_≡_};
 ghost use lib.ListN.{length};
 ghost use Rattle.answer.specs.Ending.{numberOf, besideOf};
-ghost use Rattle.driver.specs.Run.{jobOf, resultOf, declines, laid};
+ghost use Rattle.driver.specs.Run.{jobOf, resultOf, declines};
+ghost use Rattle.notation.specs.Overlay.{laid};
 
 // Write or read, to or from this address, this many bytes.
 pub struct Job {

@@ -9,7 +9,8 @@ ghost use mathlib.Core.List.{List, _∷_};
 ghost use Prim.Native.Nat.{ℕ, _≤_};
 ghost use lib.Dec.{eqb};
 ghost use lib.ListN.{length};
-ghost use Rattle.driver.specs.Run.{closes, run as runs, laid, laidAt};
+ghost use Rattle.driver.specs.Run.{closes, run as runs};
+ghost use Rattle.notation.specs.Overlay.{laid, laidAt};
 ghost use Rattle.notation.specs.Choice.{if_then_else_};
 
 // A byte sent is put at its place in the out record. Gives the next place.

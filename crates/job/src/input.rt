@@ -11,7 +11,7 @@ ghost use mathlib.Core.Path.{_≡_};
 ghost use Prim.Native.Nat.{_≤_};
 ghost use lib.ListN.{length};
 ghost use Rattle.console.specs.Report.{reportText};
-ghost use Rattle.console.specs.Text.{Holds};
+ghost use Rattle.text.specs.Text.{Holds};
 ghost use Rattle.driver.specs.Run.{declines, jobOf};
 ghost use Rattle.job.specs.Program.{enabled, directionFor, jobIn, dataSize, badInput, programText};
 

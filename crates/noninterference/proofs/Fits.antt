@@ -13,7 +13,8 @@ use Rattle.address.specs.declared.number.Direction.the-variants.{Write, Read}
 use Rattle.address.specs.declared.number.Direction.{Direction}
 use Rattle.controller.specs.declared.record.Controller.{Controller}
 use Rattle.driver.specs.Request.{lent, malformed, ready}
-use Rattle.driver.specs.Run.{Report, run, starts, handsUp, reports, declines, jobOf, laid}
+use Rattle.driver.specs.Run.{Report, run, starts, handsUp, reports, declines, jobOf}
+use Rattle.notation.specs.Overlay.{laid}
 use Rattle.driver.specs.declared.job.Job.{Job}
 use Rattle.noninterference.specs.OldBytes.{Request, reportOf}
 use Rattle.notation.proofs.Cases.{and-right, or-left-off, or-right-off, split}

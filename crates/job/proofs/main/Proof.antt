@@ -2,7 +2,7 @@
 use mathlib.Core.Path.{sym}
 use native.Mathlib.Omega.{arith}
 use lib.Seq.{length-take-le}
-use Rattle.console.proofs.Holds.{within}
+use Rattle.text.proofs.Holds.{within}
 use borrow.Author.Needs.{needs}
 use Rattle.job.proofs.main.Statement.{statement}
 use Rattle.job.proofs.main.Tie as tie

@@ -3,9 +3,9 @@ use mathlib.Core.Path.{sym, ap, _∙_}
 use Prim.Native.Nat.{ℕ}
 use lib.Dec.{eqb}
 use Rattle.console.specs.Report.{beside}
-use Rattle.console.specs.Text.{decimalOf}
+use Rattle.text.specs.Text.{decimalOf}
 use Rattle.notation.proofs.Cases.{if-true, if-false}
-use Rattle.console.proofs.Holds.{said, none, chain}
+use Rattle.text.proofs.Holds.{said, none, chain}
 use borrow.Author.Needs.{needs}
 use Rattle.console.proofs.report.put_beside.Statement.{statement}
 use Rattle.console.proofs.report.put_beside.Tie as tie

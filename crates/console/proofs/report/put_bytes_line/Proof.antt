@@ -1,6 +1,6 @@
 -- `put_bytes_line` puts the word, the bytes and the end of the line.
 use Rattle.console.specs.Report.{bytesLine}
-use Rattle.console.proofs.Holds.{chain}
+use Rattle.text.proofs.Holds.{chain}
 use borrow.Author.Needs.{needs}
 use Rattle.console.proofs.report.put_bytes_line.Statement.{statement}
 use Rattle.console.proofs.report.put_bytes_line.Tie as tie

@@ -1,9 +1,9 @@
 -- `put_first_line` puts its words and numbers, one after the other.
 use mathlib.Core.Path.{ap}
 use Rattle.console.specs.Report.{firstLine}
-use Rattle.console.specs.Text.{decimalOf}
+use Rattle.text.specs.Text.{decimalOf}
 use Rattle.driver.specs.Run.{resultOf}
-use Rattle.console.proofs.Holds.{said, chain, same-room}
+use Rattle.text.proofs.Holds.{said, chain, same-room}
 use borrow.Author.Needs.{needs}
 use Rattle.console.proofs.report.put_first_line.Statement.{statement}
 use Rattle.console.proofs.report.put_first_line.Tie as tie

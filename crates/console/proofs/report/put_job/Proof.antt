@@ -1,6 +1,6 @@
 -- `put_job` puts the three lines.
 use Rattle.console.specs.Report.{jobText}
-use Rattle.console.proofs.Holds.{chain}
+use Rattle.text.proofs.Holds.{chain}
 use borrow.Author.Needs.{needs}
 use Rattle.console.proofs.report.put_job.Statement.{statement}
 use Rattle.console.proofs.report.put_job.Tie as tie

@@ -4,7 +4,7 @@ use native.Mathlib.Omega.{arith}
 use denote.Ref.{now}
 use lib.ListN.{length-map}
 use lib.Seq.{length-take-le}
-use Rattle.console.proofs.Holds.{said}
+use Rattle.text.proofs.Holds.{said}
 use Rattle.console.proofs.Printed.{sent-fits, sent-bytes, handed-fits, handed-bytes, same-text}
 use Rattle.driver.specs.Run.{Result, resultOf}
 use borrow.Author.Needs.{needs}

@@ -5,8 +5,8 @@ use Prim.Native.Nat.{_≤_, _-_, _+_, ℕ}
 use native.Mathlib.Omega.{arith}
 use borrow.Author.Needs.{needs}
 use lib.ListN.{length, take, drop, length-set, getD}
-use Rattle.driver.specs.Run.{laid, laidAt}
-use Rattle.driver.proofs.Overlay.{at-start, none, past-end, one-more}
+use Rattle.notation.specs.Overlay.{laid, laidAt}
+use Rattle.notation.proofs.Overlay.{at-start, none, past-end, one-more}
 use Rattle.driver.proofs.Steps.{take-one, take-done}
 use Rattle.driver.proofs.hand_up.copy_first.Statement.{statement}
 use Rattle.driver.proofs.hand_up.copy_first.Tie as tie

@@ -5,7 +5,8 @@ use Prim.Native.Nat.{ℕ}
 use borrow.Author.Needs.{needs}
 use lib.Dec.{eqb}
 use denote.Ref.{now}
-use Rattle.driver.specs.Run.{laid, handsUp}
+use Rattle.driver.specs.Run.{handsUp}
+use Rattle.notation.specs.Overlay.{laid}
 use Rattle.notation.proofs.Cases.{if-true, if-false, and-true, and-no-left, and-no-right}
 use Rattle.driver.proofs.hand_up.hand_up.Statement.{statement}
 use Rattle.driver.proofs.hand_up.hand_up.Tie as tie

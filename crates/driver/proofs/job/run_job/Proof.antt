@@ -5,7 +5,8 @@ use Prim.Native.Nat.{ℕ}
 use borrow.Author.Needs.{needs}
 use lib.ListN.{length}
 use denote.Ref.{now}
-use Rattle.driver.specs.Run.{Run, Report, Result, closes, run, starts, handsUp, reports, declines, jobOf, laid}
+use Rattle.driver.specs.Run.{Run, Report, Result, closes, run, starts, handsUp, reports, declines, jobOf}
+use Rattle.notation.specs.Overlay.{laid}
 use Rattle.driver.specs.declared.progress.Progress.{Progress}
 use Rattle.notation.proofs.Cases.{if-true, if-false}
 use Rattle.driver.proofs.Steps.{small}

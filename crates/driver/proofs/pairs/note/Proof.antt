@@ -7,9 +7,9 @@ use borrow.Author.Needs.{needs}
 use lib.Dec.{eqb}
 use lib.ListN.{length-set}
 use denote.Ref.{now}
-use Rattle.driver.specs.Run.{laidAt}
+use Rattle.notation.specs.Overlay.{laidAt}
 use Rattle.notation.proofs.Cases.{if-true, if-false}
-use Rattle.driver.proofs.Overlay.{one-more, past-end}
+use Rattle.notation.proofs.Overlay.{one-more, past-end}
 use Rattle.driver.proofs.pairs.note.Statement.{statement}
 use Rattle.driver.proofs.pairs.note.Tie as tie
 

@@ -8,7 +8,7 @@ use denote.Ref.{now}
 use Rattle.driver.specs.Run.{run, closes, taking}
 use Rattle.driver.specs.Service.{serve}
 use Rattle.driver.specs.declared.progress.Progress.{Progress}
-use Rattle.driver.proofs.Overlay.{at-start}
+use Rattle.notation.proofs.Overlay.{at-start}
 use Rattle.driver.proofs.Script.{Leads, ended, passes, runs-out, refused, over, on}
 use Rattle.driver.proofs.Steps.{serve-events}
 use Rattle.driver.proofs.pairs.work.Statement.{statement}

@@ -1,7 +1,7 @@
 -- `put_run` puts the lines of the job on the enabled controller.
 use mathlib.Core.Path.{ap}
 use denote.Ref.{now}
-use Rattle.console.proofs.Holds.{said}
+use Rattle.text.proofs.Holds.{said}
 use Rattle.console.specs.Report.{reportText}
 use Rattle.controller.specs.declared.record.Controller.{Controller}
 use Rattle.driver.specs.Run.{jobOf}

@@ -3,7 +3,7 @@ use mathlib.Core.Path.{sym, ap, _∙_}
 use Prim.Native.Nat.{ℕ, _+_}
 use native.Mathlib.Omega.{arith}
 use denote.Ref.{now}
-use Rattle.console.proofs.Holds.{said}
+use Rattle.text.proofs.Holds.{said}
 use Rattle.console.specs.Report.{reportText}
 use Rattle.job.proofs.Parts.{data-small, has-head, has-data, data-part, script-part, same-job}
 use Rattle.job.specs.Program.{programReport, programText}

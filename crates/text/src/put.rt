@@ -2,7 +2,7 @@
 ghost use mathlib.Core.Path.{_≡_};
 ghost use mathlib.Core.List.{[], _∷_};
 ghost use Prim.Native.Nat.{_<_};
-ghost use Rattle.console.specs.Text.{digit as digitOf, hexOf, decimalOf, listed, Holds};
+ghost use Rattle.text.specs.Text.{digit as digitOf, hexOf, decimalOf, listed, Holds};
 
 // One byte.
 pub fn put(text: &mut [u8], at: usize, byte: u8) -> usize

@@ -1,8 +1,8 @@
 -- `put` puts one byte at its place, where there is one.
 use borrow.Author.Needs.{needs}
-use Rattle.console.proofs.Holds.{one, left-out}
-use Rattle.console.proofs.put.put.Statement.{statement}
-use Rattle.console.proofs.put.put.Tie as tie
+use Rattle.text.proofs.Holds.{one, left-out}
+use Rattle.text.proofs.put.put.Statement.{statement}
+use Rattle.text.proofs.put.put.Tie as tie
 
 returns : tie.Need-returns
 returns c = one _ _ _ (c .if1 .taken)

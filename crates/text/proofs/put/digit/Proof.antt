@@ -1,9 +1,9 @@
 -- `digit` is its definition.
 use borrow.Author.Needs.{needs}
-use Rattle.console.specs.Text.{digit}
+use Rattle.text.specs.Text.{digit}
 use Rattle.notation.proofs.Cases.{cases}
-use Rattle.console.proofs.put.digit.Statement.{statement}
-use Rattle.console.proofs.put.digit.Tie as tie
+use Rattle.text.proofs.put.digit.Statement.{statement}
+use Rattle.text.proofs.put.digit.Tie as tie
 
 returns : tie.Need-returns
 unfolding digit

@@ -5,11 +5,11 @@ use borrow.Author.Needs.{needs}
 use denote.Ref.{now}
 use lib.ListN.{length, take}
 use lib.Seq.{take-all}
-use Rattle.console.specs.Text.{Holds}
-use Rattle.console.proofs.First.{word-one}
-use Rattle.console.proofs.Holds.{said, none, chain, same-room}
-use Rattle.console.proofs.put.put_word.Statement.{statement}
-use Rattle.console.proofs.put.put_word.Tie as tie
+use Rattle.text.specs.Text.{Holds}
+use Rattle.text.proofs.First.{word-one}
+use Rattle.text.proofs.Holds.{said, none, chain, same-room}
+use Rattle.text.proofs.put.put_word.Statement.{statement}
+use Rattle.text.proofs.put.put_word.Tie as tie
 
 abbrev Inv-loop : tie.InvT-loop
 Inv-loop text₀ at word next₀ i₀ text next i = (i ≤ length word) × Holds at (take i word) text₀ text next

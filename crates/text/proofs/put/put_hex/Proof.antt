@@ -1,9 +1,9 @@
 -- `put_hex` puts the two digits.
 use borrow.Author.Needs.{needs}
-use Rattle.console.specs.Text.{digit, hexOf}
-use Rattle.console.proofs.Holds.{said, chain}
-use Rattle.console.proofs.put.put_hex.Statement.{statement}
-use Rattle.console.proofs.put.put_hex.Tie as tie
+use Rattle.text.specs.Text.{digit, hexOf}
+use Rattle.text.proofs.Holds.{said, chain}
+use Rattle.text.proofs.put.put_hex.Statement.{statement}
+use Rattle.text.proofs.put.put_hex.Tie as tie
 
 returns : tie.Need-returns
 unfolding hexOf

@@ -4,7 +4,7 @@ use mathlib.Core.Path.{_≡_, ap, _∙_}
 use Prim.Native.Nat.{ℕ, suc, _-_, _<_, _≤_, _/_, _%_}
 use native.Mathlib.Omega.{arith}
 use borrow.Author.Tests.{lt-ltb, le-ltb}
-use Rattle.console.specs.Text.{digit, decimalOf}
+use Rattle.text.specs.Text.{digit, decimalOf}
 use Rattle.notation.proofs.Cases.{if-true, if-false}
 
 pub no-place : (places n : ℕ) → places ≡ 0 → decimalOf places n ≡ []

@@ -4,18 +4,18 @@ use mathlib.Core.Path.{sym, ap, _∙_}
 use Prim.Native.Nat.{ℕ, _<_, _-_, _/_}
 use native.Mathlib.Omega.{arith}
 use borrow.Author.Needs.{needs}
-use Rattle.console.specs.Text.{decimalOf}
-use Rattle.console.proofs.Digits.{no-place, last-digit, more-digits}
-use Rattle.console.proofs.Holds.{said, none, chain}
+use Rattle.text.specs.Text.{decimalOf}
+use Rattle.text.proofs.Digits.{no-place, last-digit, more-digits}
+use Rattle.text.proofs.Holds.{said, none, chain}
 use borrow.Fn.Kinds.{In}
 use borrow.Fn.PlainCycle.{Measures, is, falls, and}
-use Rattle.console.proofs.put.put_digits.Reads as put-digits
-use Rattle.console.proofs.put.put_digits.Kinds as put-digits-kinds
-use Rattle.console.proofs.put.+put_digits.Lts-put_digits as put-digits-lts
-use Rattle.console.proofs.put.digit.Reads as digit-reads
-use Rattle.console.proofs.put.put.Reads as put-reads
-use Rattle.console.proofs.put.+put_digits.{statement}
-use Rattle.console.proofs.put.+put_digits.Tie.{close}
+use Rattle.text.proofs.put.put_digits.Reads as put-digits
+use Rattle.text.proofs.put.put_digits.Kinds as put-digits-kinds
+use Rattle.text.proofs.put.+put_digits.Lts-put_digits as put-digits-lts
+use Rattle.text.proofs.put.digit.Reads as digit-reads
+use Rattle.text.proofs.put.put.Reads as put-reads
+use Rattle.text.proofs.put.+put_digits.{statement}
+use Rattle.text.proofs.put.+put_digits.Tie.{close}
 
 abbrev μ-put-digits : Measures 1 put-digits-kinds.ps ℕ
 μ-put-digits κs a = a .1 .1 .1 .0

@@ -4,7 +4,7 @@ use mathlib.Core.Path.{_≡_}
 use Prim.Native.Nat.{ℕ, zero, suc, _+_, _/_, _%_}
 use lib.Dec.{ltb}
 use lib.ListN.{length}
-use Rattle.driver.specs.Run.{laidAt}
+use Rattle.notation.specs.Overlay.{laidAt}
 use Rattle.notation.specs.Choice.{if_then_else_}
 
 -- a digit: 0 to 9, A to F

@@ -7,9 +7,9 @@ use native.Mathlib.Omega.{arith}
 use borrow.Author.Tests.{le-ltb, ltb-true, ltb-false}
 use lib.Dec.{ltb}
 use lib.ListN.{length, take, drop, set, length-append, length-set, take-append-drop}
-use Rattle.console.specs.Text.{placeAfter, Holds}
-use Rattle.driver.proofs.Overlay.{none as laid-none, past-end, one-more}
-use Rattle.driver.specs.Run.{laid, laidAt}
+use Rattle.text.specs.Text.{placeAfter, Holds}
+use Rattle.notation.proofs.Overlay.{none as laid-none, past-end, one-more}
+use Rattle.notation.specs.Overlay.{laid, laidAt}
 use Rattle.notation.proofs.Cases.{if-false, split}
 
 -- a case for each outcome of a test

@@ -6,7 +6,7 @@ use native.Mathlib.Nat.{le-of-suc-le-suc, not-suc-le-zero}
 use native.Mathlib.Numerals.{add-one}
 use lib.ListN.{length, set, take-append-drop, drop-of-length-le}
 use lib.Seq.{take-all}
-use Rattle.driver.specs.Run.{laid, laidAt}
+use Rattle.notation.specs.Overlay.{laid, laidAt}
 
 pub at-start : (xs lent : List ℕ) → laidAt 0 xs lent ≡ laid xs lent
 unfolding laidAt

@@ -5,7 +5,7 @@ use Prim.Native.Nat.{ℕ, _+_, _<_}
 use native.Mathlib.Numerals.{add-one}
 use lib.ListN.{length, take, getD}
 use lib.Seq.{take-suc}
-use Rattle.console.specs.Text.{hexOf, listed}
+use Rattle.text.specs.Text.{hexOf, listed}
 
 pub word-one : (xs : List ℕ) (i : ℕ) → i < length xs → take i xs ++ (getD xs i 0 ∷ []) ≡ take (i + 1) xs
 word-one xs i h = sym (ap (λ (k : ℕ). take k xs) (add-one i) ∙ take-suc xs i 0 h)

@@ -6,11 +6,11 @@ use borrow.Author.Needs.{needs}
 use denote.Ref.{now}
 use lib.ListN.{length, take}
 use lib.Seq.{take-all}
-use Rattle.console.specs.Text.{listed, Holds}
-use Rattle.console.proofs.First.{listed-none, listed-one}
-use Rattle.console.proofs.Holds.{said, none, chain, same-room}
-use Rattle.console.proofs.put.put_listed.Statement.{statement}
-use Rattle.console.proofs.put.put_listed.Tie as tie
+use Rattle.text.specs.Text.{listed, Holds}
+use Rattle.text.proofs.First.{listed-none, listed-one}
+use Rattle.text.proofs.Holds.{said, none, chain, same-room}
+use Rattle.text.proofs.put.put_listed.Statement.{statement}
+use Rattle.text.proofs.put.put_listed.Tie as tie
 
 abbrev Inv-loop : tie.InvT-loop
 Inv-loop text₀ at bytes next₀ i₀ text next i = (i ≤ length bytes) × Holds at (listed (take i bytes)) text₀ text next

@@ -1,0 +1,2 @@
+-- Text in lent memory.
+pub mod Text

@@ -1,0 +1,2 @@
+// Words, numbers and bytes as text, put into memory that the caller lends.
+pub mod put;
