@@ -1,4 +1,4 @@
-"""The job driver of the scope paper's section "Jobs", on top of the model.
+"""The job driver of document 01's section "Jobs", on top of the model.
 
 All that a job does to the controller it does by register accesses and events.
 job_program(raw) does with its input what the program `job` does.

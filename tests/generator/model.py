@@ -1,4 +1,4 @@
-"""A plain reference model of the I2C controller, from the scope paper alone.
+"""A plain reference model of the I2C controller, from document 01 alone.
 
 Each rule stands beside a comment that names the paper's section.
 """
