@@ -55,6 +55,18 @@ sound c =
     hostSound (c .turn) and moveSound c
 
 -- The record with one item changed.
+abbrev pub withBuffer : Controller → List ℕ → Controller
+withBuffer c x = record {
+  buffer = x;
+  hand = c .hand;
+  moved = c .moved;
+  pointer = c .pointer;
+  armed = c .armed;
+  registers = c .registers;
+  control = c .control;
+  turn = c .turn;
+}
+
 abbrev pub withPlace : Controller → ℕ → ℕ → Controller
 withPlace c i x = record {
   buffer = set (c .buffer) i x;

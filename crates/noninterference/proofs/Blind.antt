@@ -24,7 +24,7 @@ use Rattle.controller.specs.Access.{indirectAt, barsRead, barsWrite, readSound,
 use Rattle.controller.specs.Condition.{ownStart, otherStart, otherStop, ownStop, addressed, addressByte, outbid, addressLost, dataLost, illegalEdge, dataHeld, clockHeld, idle}
 use Rattle.controller.specs.Event.{badArgument, eventSound, eventOf}
 use Rattle.controller.specs.I2ccon.{badCount, controlled, enabled, writeFlags, writeControl}
-use Rattle.controller.specs.Record.{place, sound, moveSound}
+use Rattle.controller.specs.Record.{place, sound, moveSound, withBuffer, withHand, withTurn}
 use Rattle.controller.specs.Registers.{wrote, writePointer, readData, writeData, atPointer, writeAtPointer}
 use Rattle.controller.specs.Reply.{Outcome, refuses, accepts, waitsFor, interruptsAt}
 use Rattle.controller.specs.Reset.{resetWith, completesReset, writePreset}
@@ -33,22 +33,9 @@ use Rattle.controller.specs.declared.record.Controller.{Controller}
 use Rattle.notation.proofs.Among.{has, among-has, is-true, within}
 use Rattle.notation.specs.Choice.{if_then_else_, _and_, _or_, among}
 
--- the record with another buffer
-abbrev pub swap : Controller → List ℕ → Controller
-swap c b = record {
-  buffer = b;
-  hand = c .hand;
-  moved = c .moved;
-  pointer = c .pointer;
-  armed = c .armed;
-  registers = c .registers;
-  control = c .control;
-  turn = c .turn;
-}
-
 -- all of the record but the buffer
 abbrev pub blank : Controller → Controller
-blank c = swap c []
+blank c = withBuffer c []
 
 -- the outcome o of a rule at c, and o′ of the same rule with another buffer
 pub record Blind (c : Controller) (o o′ : Outcome) : Type 0 where
@@ -58,36 +45,24 @@ pub record Blind (c : Controller) (o o′ : Outcome) : Type 0 where
   pub sized : length (o .next .buffer) ≡ length (c .buffer)
 
 -- the ends of the rules
-refusing : (c : Controller) (b : List ℕ) (n : ℕ) → Blind c (refuses c n) (refuses (swap c b) n)
+refusing : (c : Controller) (b : List ℕ) (n : ℕ) → Blind c (refuses c n) (refuses (withBuffer c b) n)
 unfolding refuses
 refusing c b n = record { next = refl; refused = refl; value = refl; sized = refl }
 
-accepting : (c d : Controller) (b : List ℕ) (v v′ : ℕ) → v ≡ v′ → length (d .buffer) ≡ length (c .buffer) → Blind c (accepts d v) (accepts (swap d b) v′)
+accepting : (c d : Controller) (b : List ℕ) (v v′ : ℕ) → v ≡ v′ → length (d .buffer) ≡ length (c .buffer) → Blind c (accepts d v) (accepts (withBuffer d b) v′)
 unfolding accepts
 accepting c d b v v′ w h = record { next = refl; refused = refl; value = w; sized = h }
 
-waiting : (c d : Controller) (b : List ℕ) (t : Turn) (v : ℕ) → length (d .buffer) ≡ length (c .buffer) → Blind c (waitsFor d t v) (waitsFor (swap d b) t v)
+waiting : (c d : Controller) (b : List ℕ) (t : Turn) (v : ℕ) → length (d .buffer) ≡ length (c .buffer) → Blind c (waitsFor d t v) (waitsFor (withBuffer d b) t v)
 unfolding waitsFor
 waiting c d b t v h = accepting c _ b v v refl h
 
-interrupting : (c d : Controller) (b : List ℕ) (s s′ : ℕ) (e : Edge) (v v′ : ℕ) → s ≡ s′ → v ≡ v′ → length (d .buffer) ≡ length (c .buffer) → Blind c (interruptsAt d s e v) (interruptsAt (swap d b) s′ e v′)
+interrupting : (c d : Controller) (b : List ℕ) (s s′ : ℕ) (e : Edge) (v v′ : ℕ) → s ≡ s′ → v ≡ v′ → length (d .buffer) ≡ length (c .buffer) → Blind c (interruptsAt d s e v) (interruptsAt (withBuffer d b) s′ e v′)
 unfolding interruptsAt accepts
 interrupting c d b s s′ e v v′ q w h =
-    record { next = ap (λ (n : ℕ). blank (hosted n)) q; refused = refl; value = w; sized = h }
-  where
-    hosted : ℕ → Controller
-    hosted n = record {
-      buffer = d .buffer;
-      hand = 0;
-      moved = d .moved;
-      pointer = d .pointer;
-      armed = d .armed;
-      registers = d .registers;
-      control = d .control;
-      turn = Host n e;
-    }
+    record { next = ap (λ (n : ℕ). blank (withHand (withTurn d (Host n e)) 0)) q; refused = refl; value = w; sized = h }
 
-writing : (c d : Controller) (b : List ℕ) → length (d .buffer) ≡ length (c .buffer) → Blind c (wrote d) (wrote (swap d b))
+writing : (c d : Controller) (b : List ℕ) → length (d .buffer) ≡ length (c .buffer) → Blind c (wrote d) (wrote (withBuffer d b))
 unfolding wrote
 writing c d b h = accepting c _ b 0 0 refl h
 
@@ -104,100 +79,100 @@ same n = refl
 
 ruleset ends = (refusing, accepting, waiting, interrupting, writing, either, kept, same, length-set)
 
-own-start : (c : Controller) (b : List ℕ) → Blind c (ownStart c) (ownStart (swap c b))
+own-start : (c : Controller) (b : List ℕ) → Blind c (ownStart c) (ownStart (withBuffer c b))
 unfolding ownStart
 own-start c b = search ends
 
-other-start : (c : Controller) (b : List ℕ) → Blind c (otherStart c) (otherStart (swap c b))
+other-start : (c : Controller) (b : List ℕ) → Blind c (otherStart c) (otherStart (withBuffer c b))
 unfolding otherStart
 other-start c b = search ends
 
-other-stop : (c : Controller) (b : List ℕ) → Blind c (otherStop c) (otherStop (swap c b))
+other-stop : (c : Controller) (b : List ℕ) → Blind c (otherStop c) (otherStop (withBuffer c b))
 unfolding otherStop
 other-stop c b = search ends
 
-own-stop : (c : Controller) (b : List ℕ) → Blind c (ownStop c) (ownStop (swap c b))
+own-stop : (c : Controller) (b : List ℕ) → Blind c (ownStop c) (ownStop (withBuffer c b))
 unfolding ownStop
 own-stop c b = search ends
 
-data-lost : (c : Controller) (b : List ℕ) → Blind c (dataLost c) (dataLost (swap c b))
+data-lost : (c : Controller) (b : List ℕ) → Blind c (dataLost c) (dataLost (withBuffer c b))
 unfolding dataLost
 data-lost c b = search ends
 
-illegal-edge : (c : Controller) (b : List ℕ) → Blind c (illegalEdge c) (illegalEdge (swap c b))
+illegal-edge : (c : Controller) (b : List ℕ) → Blind c (illegalEdge c) (illegalEdge (withBuffer c b))
 unfolding illegalEdge
 illegal-edge c b = search ends
 
-data-held : (c : Controller) (b : List ℕ) → Blind c (dataHeld c) (dataHeld (swap c b))
+data-held : (c : Controller) (b : List ℕ) → Blind c (dataHeld c) (dataHeld (withBuffer c b))
 unfolding dataHeld
 data-held c b = search ends
 
-clock-held : (c : Controller) (b : List ℕ) → Blind c (clockHeld c) (clockHeld (swap c b))
+clock-held : (c : Controller) (b : List ℕ) → Blind c (clockHeld c) (clockHeld (withBuffer c b))
 unfolding clockHeld
 clock-held c b = search ends
 
-idle-time : (c : Controller) (b : List ℕ) → Blind c (idle c) (idle (swap c b))
+idle-time : (c : Controller) (b : List ℕ) → Blind c (idle c) (idle (withBuffer c b))
 unfolding idle
 idle-time c b = search ends
 
-address-found : (c : Controller) (b : List ℕ) (m : Match) → Blind c (addressed c m) (addressed (swap c b) m)
+address-found : (c : Controller) (b : List ℕ) (m : Match) → Blind c (addressed c m) (addressed (withBuffer c b) m)
 unfolding addressed
 address-found c b General = search ends
 address-found c b (Own Write) = search ends
 address-found c b (Own Read) = search ends
 address-found c b Nothing = search ends
 
-address-byte : (c : Controller) (b : List ℕ) (byte : ℕ) → Blind c (addressByte c byte) (addressByte (swap c b) byte)
+address-byte : (c : Controller) (b : List ℕ) (byte : ℕ) → Blind c (addressByte c byte) (addressByte (withBuffer c b) byte)
 unfolding addressByte
 address-byte c b byte = search (address-found, ends)
 
-data-in : (c : Controller) (b : List ℕ) (byte taken ended : ℕ) → Blind c (dataIn c byte taken ended) (dataIn (swap c b) byte taken ended)
+data-in : (c : Controller) (b : List ℕ) (byte taken ended : ℕ) → Blind c (dataIn c byte taken ended) (dataIn (withBuffer c b) byte taken ended)
 unfolding dataIn isLast acknowledgesLast received
 data-in c b byte taken ended = search ends
 
-slave-in : (c : Controller) (b : List ℕ) (byte : ℕ) (w : Called) → Blind c (slaveIn c byte w) (slaveIn (swap c b) byte w)
+slave-in : (c : Controller) (b : List ℕ) (byte : ℕ) (w : Called) → Blind c (slaveIn c byte w) (slaveIn (withBuffer c b) byte w)
 unfolding slaveIn
 slave-in c b byte called.Own = data-in c b byte 0x80 0x88
 slave-in c b byte called.General = data-in c b byte 0xE0 0xE8
 
-byte-in : (c : Controller) (b : List ℕ) (byte : ℕ) → Blind c (byteIn c byte) (byteIn (swap c b) byte)
+byte-in : (c : Controller) (b : List ℕ) (byte : ℕ) → Blind c (byteIn c byte) (byteIn (withBuffer c b) byte)
 unfolding byteIn
 byte-in c b byte = search (data-in, slave-in, ends)
 
-write-preset : (c : Controller) (b : List ℕ) (value : ℕ) → Blind c (writePreset c value) (writePreset (swap c b) value)
+write-preset : (c : Controller) (b : List ℕ) (value : ℕ) → Blind c (writePreset c value) (writePreset (withBuffer c b) value)
 unfolding writePreset completesReset resetWith
 write-preset c b value = search ends
 
-write-pointer : (c : Controller) (b : List ℕ) (value : ℕ) → Blind c (writePointer c value) (writePointer (swap c b) value)
+write-pointer : (c : Controller) (b : List ℕ) (value : ℕ) → Blind c (writePointer c value) (writePointer (withBuffer c b) value)
 unfolding writePointer
 write-pointer c b value = search ends
 
-write-data : (c : Controller) (b : List ℕ) (value : ℕ) → Blind c (writeData c value) (writeData (swap c b) value)
+write-data : (c : Controller) (b : List ℕ) (value : ℕ) → Blind c (writeData c value) (writeData (withBuffer c b) value)
 unfolding writeData
 write-data c b value = search ends
 
-write-at-pointer : (c : Controller) (b : List ℕ) (value : ℕ) → Blind c (writeAtPointer c value) (writeAtPointer (swap c b) value)
+write-at-pointer : (c : Controller) (b : List ℕ) (value : ℕ) → Blind c (writeAtPointer c value) (writeAtPointer (withBuffer c b) value)
 unfolding writeAtPointer
 write-at-pointer c b value = search (write-preset, ends)
 
-control-written : (c : Controller) (b : List ℕ) (k : Control) (t : Turn) → Blind c (controlled c k t) (controlled (swap c b) k t)
+control-written : (c : Controller) (b : List ℕ) (k : Control) (t : Turn) → Blind c (controlled c k t) (controlled (withBuffer c b) k t)
 unfolding controlled
 control-written c b k t = search ends
 
-enabling : (c : Controller) (b : List ℕ) (k : Control) (r : Response) → Blind c (enabled c k r) (enabled (swap c b) k r)
+enabling : (c : Controller) (b : List ℕ) (k : Control) (r : Response) → Blind c (enabled c k r) (enabled (withBuffer c b) k r)
 unfolding enabled badCount
 enabling c b k Unlisted = search ends
 enabling c b k (Next t) = search (control-written, ends)
 
-write-flags : (c : Controller) (b : List ℕ) (k : Control) → Blind c (writeFlags c k) (writeFlags (swap c b) k)
+write-flags : (c : Controller) (b : List ℕ) (k : Control) → Blind c (writeFlags c k) (writeFlags (withBuffer c b) k)
 unfolding writeFlags
 write-flags c b k = search (enabling, control-written, ends)
 
-write-control : (c : Controller) (b : List ℕ) (value : ℕ) → Blind c (writeControl c value) (writeControl (swap c b) value)
+write-control : (c : Controller) (b : List ℕ) (value : ℕ) → Blind c (writeControl c value) (writeControl (withBuffer c b) value)
 unfolding writeControl
 write-control c b value = search write-flags
 
-write-sound : (c : Controller) (b : List ℕ) (register value : ℕ) → Blind c (writeSound c register value) (writeSound (swap c b) register value)
+write-sound : (c : Controller) (b : List ℕ) (register value : ℕ) → Blind c (writeSound c register value) (writeSound (withBuffer c b) register value)
 unfolding writeSound indirectAt barsWrite
 write-sound c b register value = search (write-pointer, write-data, write-at-pointer, write-control, ends) depth 12
 
@@ -212,7 +187,7 @@ unfolding if_then_else_
 branch c true o o′ p p′ f g = f refl
 branch c false o o′ p p′ f g = g refl
 
-outbid-found : (c : Controller) (b : List ℕ) (m : Match) → Blind c (outbid c m) (outbid (swap c b) m)
+outbid-found : (c : Controller) (b : List ℕ) (m : Match) → Blind c (outbid c m) (outbid (withBuffer c b) m)
 unfolding outbid
 outbid-found c b General = search ends
 outbid-found c b (Own Write) = search ends
@@ -225,16 +200,16 @@ unfolding _and_
 both c true y y′ o o′ p p′ e f g = subst (λ z. Blind c (if y then o else p) (if z then o′ else p′)) (e refl) (either c y o o′ p p′ f g)
 both c false y y′ o o′ p p′ e f g = either c false o o′ p p′ f g
 
-address-lost : (c : Controller) (b : List ℕ) (byte : ℕ) → Reading c b → Blind c (addressLost c byte) (addressLost (swap c b) byte)
+address-lost : (c : Controller) (b : List ℕ) (byte : ℕ) → Reading c b → Blind c (addressLost c byte) (addressLost (withBuffer c b) byte)
 unfolding addressLost
 address-lost c b byte r =
     both c _ _ _ _ _ _ _ (λ t. ap (ltb byte) (r .address t)) (outbid-found c b _) (refusing c b 8)
 
-data-out : (c : Controller) (b : List ℕ) (nack broken done : ℕ) → place c (cursor c) ≡ getD b (cursor c) 0 → Blind c (dataOut c nack broken done) (dataOut (swap c b) nack broken done)
+data-out : (c : Controller) (b : List ℕ) (nack broken done : ℕ) → place c (cursor c) ≡ getD b (cursor c) 0 → Blind c (dataOut c nack broken done) (dataOut (withBuffer c b) nack broken done)
 unfolding dataOut isLast cursor
 data-out c b nack broken done e = search (e, ends)
 
-byte-out : (c : Controller) (b : List ℕ) (nack : ℕ) → Reading c b → Blind c (byteOut c nack) (byteOut (swap c b) nack)
+byte-out : (c : Controller) (b : List ℕ) (nack : ℕ) → Reading c b → Blind c (byteOut c nack) (byteOut (withBuffer c b) nack)
 unfolding byteOut
 byte-out c b nack r =
     branch c (among (kind (c .turn)) (address ∷ [])) _ _ _ _
@@ -246,12 +221,12 @@ byte-out c b nack r =
     (λ _. refusing c b 8)))
 
 -- Every write, of any record.
-pub write-blind : (c : Controller) (b : List ℕ) (register value : ℕ) → Blind c (writeOf c register value) (writeOf (swap c b) register value)
+pub write-blind : (c : Controller) (b : List ℕ) (register value : ℕ) → Blind c (writeOf c register value) (writeOf (withBuffer c b) register value)
 unfolding writeOf sound moveSound
 write-blind c b register value = search (write-sound, ends)
 
 -- events 1 to 13
-event-sound : (c : Controller) (b : List ℕ) (number argument : ℕ) → (among number (6 ∷ 8 ∷ []) ≡ true → Reading c b) → Blind c (eventSound c number argument) (eventSound (swap c b) number argument)
+event-sound : (c : Controller) (b : List ℕ) (number argument : ℕ) → (among number (6 ∷ 8 ∷ []) ≡ true → Reading c b) → Blind c (eventSound c number argument) (eventSound (withBuffer c b) number argument)
 unfolding eventSound
 event-sound c b number argument r =
     either c (eqb number 1) _ _ _ _ (own-start c b)
@@ -271,7 +246,7 @@ event-sound c b number argument r =
     reading k t e = among-has number (6 ∷ 8 ∷ []) ∙ ap (has (6 ∷ 8 ∷ [])) (eqb-true number k e) ∙ is-true _ t
 
 -- Every event, of any record; events 6 and 8 where the byte that they read is the same.
-pub event-blind : (c : Controller) (b : List ℕ) (number argument : ℕ) → (among number (6 ∷ 8 ∷ []) ≡ true → Reading c b) → Blind c (eventOf c number argument) (eventOf (swap c b) number argument)
+pub event-blind : (c : Controller) (b : List ℕ) (number argument : ℕ) → (among number (6 ∷ 8 ∷ []) ≡ true → Reading c b) → Blind c (eventOf c number argument) (eventOf (withBuffer c b) number argument)
 unfolding eventOf sound moveSound resetWith
 event-blind c b number argument r =
     either c (eqb number 0 or ltb 14 number) _ _ _ _ (refusing c b 1)
@@ -279,14 +254,14 @@ event-blind c b number argument r =
     (either c (eqb number 14) _ _ _ _ (accepting c _ b 0 0 refl refl)
     (either c (sound c) _ _ _ _ (event-sound c b number argument r) (refusing c b 10))))
 
-read-sound : (c : Controller) (b : List ℕ) (register : ℕ) → eqb register 1 ≡ false → Blind c (readSound c register) (readSound (swap c b) register)
+read-sound : (c : Controller) (b : List ℕ) (register : ℕ) → eqb register 1 ≡ false → Blind c (readSound c register) (readSound (withBuffer c b) register)
 unfolding readSound indirectAt barsRead atPointer
 read-sound c b register e =
     either c _ _ _ _ _ (refusing c b 9) (either c _ _ _ _ _ (refusing c b 3) (either c (eqb register 0) _ _ _ _ (search ends)
     (branch c (eqb register 1) _ _ _ _ (λ t. absurd (true≢false (sym t ∙ e))) (λ _. search ends))))
 
 -- Every read but that of I2CDAT.
-pub read-blind : (c : Controller) (b : List ℕ) (register : ℕ) → eqb register 1 ≡ false → Blind c (readOf c register) (readOf (swap c b) register)
+pub read-blind : (c : Controller) (b : List ℕ) (register : ℕ) → eqb register 1 ≡ false → Blind c (readOf c register) (readOf (withBuffer c b) register)
 unfolding readOf sound moveSound
 read-blind c b register e = either c _ _ _ _ _ (refusing c b 1) (either c _ _ _ _ _ (read-sound c b register e) (refusing c b 10))
 
@@ -304,7 +279,7 @@ choose c true o o′ p p′ f g = f
 choose c false o o′ p p′ f g = g
 
 -- An I2CDAT read: all of the record but the buffer goes on in the same way, whatever byte was read.
-pub fetch-blind : (c : Controller) (b : List ℕ) → Leaves c (readOf c 1) (readOf (swap c b) 1)
+pub fetch-blind : (c : Controller) (b : List ℕ) → Leaves c (readOf c 1) (readOf (withBuffer c b) 1)
 unfolding readOf readSound readData atPointer barsRead indirectAt sound moveSound accepts
 fetch-blind c b =
     choose c _ _ _ _ _ (left c _ _ (refusing c b 1)) (choose c _ _ _ _ _

@@ -7,6 +7,7 @@ use lib.Dec.{eqb}
 use lib.ListN.{length, take}
 use Rattle.controller.specs.Access.{readOf, writeOf}
 use Rattle.controller.specs.Event.{eventOf}
+use Rattle.controller.specs.Record.{withBuffer}
 use Rattle.controller.specs.Reply.{Outcome}
 use Rattle.controller.specs.declared.record.Controller.{Controller}
 use Rattle.driver.specs.Run.{taking}
@@ -14,7 +15,7 @@ use Rattle.driver.specs.Service.{put, reads, begins, addresses, load, sends, fe
 use Rattle.answer.specs.declared.ending.Ending.{Ending}
 use Rattle.driver.specs.declared.job.Job.{Job}
 use Rattle.driver.specs.declared.progress.Progress.{Progress}
-use Rattle.noninterference.proofs.Blind.{swap, blank, Blind, Leaves, Reading, write-blind, event-blind, read-blind, fetch-blind}
+use Rattle.noninterference.proofs.Blind.{blank, Blind, Leaves, Reading, write-blind, event-blind, read-blind, fetch-blind}
 use Rattle.notation.specs.Choice.{if_then_else_, among}
 
 pub record Twin (c c′ : Controller) : Type 0 where
@@ -26,24 +27,24 @@ pub flip : {c c′ : Controller} → Twin c c′ → Twin c′ c
 flip t = record { rest = sym (t .rest); places = t .places′; places′ = t .places }
 
 -- the second is the first with its own buffer
-as-swap : (c c′ : Controller) → Twin c c′ → swap c (c′ .buffer) ≡ c′
-as-swap c c′ t = ap (λ x. swap x (c′ .buffer)) (t .rest)
+other-buffer : (c c′ : Controller) → Twin c c′ → withBuffer c (c′ .buffer) ≡ c′
+other-buffer c c′ t = ap (λ x. withBuffer x (c′ .buffer)) (t .rest)
 
 -- a law of two buffers, as one of twins
 pub write-alike : (c c′ : Controller) (register value : ℕ) → Twin c c′ → Blind c (writeOf c register value) (writeOf c′ register value)
 write-alike c c′ register value t =
-    subst (λ x. Blind c (writeOf c register value) (writeOf x register value)) (as-swap c c′ t) (write-blind c (c′ .buffer) register value)
+    subst (λ x. Blind c (writeOf c register value) (writeOf x register value)) (other-buffer c c′ t) (write-blind c (c′ .buffer) register value)
 
 pub event-alike : (c c′ : Controller) (number argument : ℕ) → Twin c c′ → (among number (6 ∷ 8 ∷ []) ≡ true → Reading c (c′ .buffer)) → Blind c (eventOf c number argument) (eventOf c′ number argument)
 event-alike c c′ number argument t r =
-    subst (λ x. Blind c (eventOf c number argument) (eventOf x number argument)) (as-swap c c′ t) (event-blind c (c′ .buffer) number argument r)
+    subst (λ x. Blind c (eventOf c number argument) (eventOf x number argument)) (other-buffer c c′ t) (event-blind c (c′ .buffer) number argument r)
 
 read-alike : (c c′ : Controller) (register : ℕ) → Twin c c′ → eqb register 1 ≡ false → Blind c (readOf c register) (readOf c′ register)
 read-alike c c′ register t e =
-    subst (λ x. Blind c (readOf c register) (readOf x register)) (as-swap c c′ t) (read-blind c (c′ .buffer) register e)
+    subst (λ x. Blind c (readOf c register) (readOf x register)) (other-buffer c c′ t) (read-blind c (c′ .buffer) register e)
 
 fetch-alike : (c c′ : Controller) → Twin c c′ → Leaves c (readOf c 1) (readOf c′ 1)
-fetch-alike c c′ t = subst (λ x. Leaves c (readOf c 1) (readOf x 1)) (as-swap c c′ t) (fetch-blind c (c′ .buffer))
+fetch-alike c c′ t = subst (λ x. Leaves c (readOf c 1) (readOf x 1)) (other-buffer c c′ t) (fetch-blind c (c′ .buffer))
 
 -- an outcome on each side leaves twins
 pub twins : {c c′ : Controller} (o o′ : Outcome) → Twin c c′ → Blind c o o′ → Blind c′ o′ o → Twin (o .next) (o′ .next)
