@@ -15,7 +15,7 @@ use Rattle.answer.specs.declared.Refusal.{Refusal}
 use Rattle.controller.specs.Event.{eventOf}
 use Rattle.controller.specs.Reply.{Outcome, outcomeOf}
 use Rattle.controller.specs.declared.reply.Reply.{Reply}
-use Rattle.notation.proofs.Overlay.{none}
+use Rattle.notation.proofs.Overlay.{at-start, none}
 use Rattle.driver.proofs.Steps.{drop-one}
 use Rattle.driver.specs.Run.{Run, closes, breaks, sending, taking, run}
 use Rattle.notation.specs.Overlay.{laid, laidAt}
@@ -31,6 +31,14 @@ pub record Leads (left whole : Run) (at : ℕ) (out lent : List ℕ) : Type 0 wh
   pub result : left .result ≡ whole .result
   pub fetched : left .fetched ≡ whole .fetched
   pub sent : laidAt at (left .sent) out ≡ laid (whole .sent) lent
+
+-- at the start all is left
+pub begun : {left whole : Run} {out : List ℕ} → left ≡ whole → Leads left whole 0 out out
+begun {left} {whole} {out} e = record {
+  result = ap (λ (r : Run). r .result) e;
+  fetched = ap (λ (r : Run). r .fetched) e;
+  sent = at-start _ _ ∙ ap (λ (r : Run). laid (r .sent) out) e;
+}
 
 -- the run is over, with nothing more sent
 pub ended : {left whole : Run} {at : ℕ} {out lent : List ℕ} (q : Progress) → left ≡ closes q → Leads left whole at out lent →
@@ -128,5 +136,10 @@ module _ (job : Job) (payload : List ℕ) (p : Progress) (script : List ℕ) (i 
       pub over : q .over ≡ true → run job payload p (drop i script) ≡ sending (getD script i 0) value (closes q)
       over o = taken ∙ ap (λ (t : Run). sending (getD script i 0) value t) (if-true _ _ _ o)
 
-      pub on : q .over ≡ false → run job payload p (drop i script) ≡ sending (getD script i 0) value (run job payload q (drop (i + 2) script))
-      on o = taken ∙ ap (λ (t : Run). sending (getD script i 0) value t) (if-false _ _ _ o)
+      -- (the run goes on from t, which is that progress)
+      pub on : q .over ≡ false → {t : Progress} → t ≡ q →
+          run job payload p (drop i script) ≡ sending (getD script i 0) value (run job payload t (drop (i + 2) script))
+      on o {t} e =
+          taken
+          ∙ ap (λ (r : Run). sending (getD script i 0) value r)
+          (if-false _ _ _ o ∙ ap (λ (u : Progress). run job payload u (drop (i + 2) script)) (sym e))

@@ -6,7 +6,7 @@ use Prim.Native.Nat.{ℕ, zero, suc, _+_, _-_, _≤_, _<_}
 use native.Mathlib.Nat.{le-of-suc-le-suc, not-suc-le-zero}
 use native.Mathlib.Numerals.{add-one}
 use native.Mathlib.Omega.{arith}
-use borrow.Author.Tests.{ltb-false}
+use borrow.Author.Tests.{ltb-false, eqb-true, not-false}
 use lib.Dec.{T, eqb}
 use lib.ListN.{length, take, drop, getD, set, drop-of-length-le}
 use lib.Seq.{drop-cons, drop-nil, getD-take, length-take-le}
@@ -14,11 +14,12 @@ use types.Run.{OneOf}
 use Rattle.controller.specs.Access.{readOf}
 use Rattle.controller.specs.declared.record.Controller.{Controller}
 use Rattle.driver.specs.Request.{badLength, malformed}
-use Rattle.driver.specs.Service.{put, reads, load, fetchOne, fetch, goesOn, stops, ends, finishes, stopsRead, atStatus, serve}
+use Rattle.driver.specs.Run.{reaching}
+use Rattle.driver.specs.Service.{put, reads, load, fetchOne, fetch, goesOn, stops, ends, finishes, stopsRead, atStatus, hasWork, serve}
 use Rattle.driver.specs.declared.job.Job.{Job}
 use Rattle.driver.specs.declared.progress.Progress.{Progress}
 use Rattle.notation.proofs.Among.{has, every, same, keys-in}
-use Rattle.notation.proofs.Cases.{or-left-off, or-right-off}
+use Rattle.notation.proofs.Cases.{if-false, or-left-off, or-right-off}
 use Rattle.notation.specs.Choice.{if_then_else_, among}
 
 -- the first of what is left, and the rest
@@ -94,6 +95,27 @@ status-events job payload status p =
 pub serve-events : (job : Job) (payload : List ℕ) (event : ℕ) (p : Progress) → (serve job payload event p) .events ≡ p .events
 unfolding serve ends finishes
 serve-events job payload event p = either _ _ _ _ refl (either _ _ _ _ refl (status-events job payload (reads (p .controller) 0) p))
+
+-- at F8h the driver waits, and where it has no work it leaves all as it is
+at-f8 : (job : Job) (payload : List ℕ) (p : Progress) → atStatus job payload 0xF8 p ≡ p
+unfolding atStatus among if_then_else_
+at-f8 job payload p = refl
+
+pub waits : (job : Job) (payload : List ℕ) (event : ℕ) (p : Progress) → hasWork event (p .controller) ≡ false → serve job payload event p ≡ p
+unfolding serve hasWork
+waits job payload event p h =
+    let status = reads (p .controller) 0 in
+    let later = or-right-off (eqb event 14) _ h in
+    let f8 = eqb-true status 0xF8 (not-false _ (or-right-off (eqb event 4) _ later)) in
+    if-false _ _ _ (or-left-off (eqb event 14) _ h)
+    ∙ if-false _ _ _ (or-left-off (eqb event 4) _ later)
+    ∙ ap (λ (s : ℕ). atStatus job payload s p) f8
+    ∙ at-f8 job payload p
+
+-- the progress as reached, where the record and the pairs taken are its own
+pub reached : (p : Progress) (events : ℕ) → p .events ≡ events → reaching p (p .controller) events ≡ p
+unfolding reaching
+reached p events e = rw (sym e)
 
 -- a job that is not malformed has at most 68 bytes
 pub small : (job : Job) (given room places bytes : ℕ) → malformed job given room places bytes ≡ false → job .n ≤ 68

@@ -80,6 +80,17 @@ taking p c = record {
   fetched = p .fetched;
 }
 
+-- the record and the pairs taken, as they are now
+unfoldable pub reaching : Progress → Controller → ℕ → Progress
+reaching p c events = record {
+  controller = c;
+  over = p .over;
+  ending = p .ending;
+  count = p .count;
+  events = events;
+  fetched = p .fetched;
+}
+
 -- "After each pair it does this work first, then looks for the next pair or the script's end. It takes pairs while the job lasts; later
 -- pairs aren't looked at." (A single byte left over is no pair; such a script is answered 21 before.)
 unfoldable pub run : Job → List ℕ → Progress → List ℕ → Run

@@ -1,5 +1,5 @@
 -- Document 01, Jobs: what the driver does to the controller, all of it by register accesses, and what it notes.
-use mathlib.Core.Bool.{true, false}
+use mathlib.Core.Bool.{Bool, true, false, not}
 use mathlib.Core.List.{List, [], _∷_}
 use Prim.Native.Nat.{ℕ, zero, suc, _+_}
 use lib.Dec.{eqb}
@@ -13,7 +13,7 @@ use Rattle.answer.specs.declared.ending.Ending.the-variants.{Done, AddressNacke
 use Rattle.answer.specs.declared.ending.Ending.{Ending}
 use Rattle.driver.specs.declared.job.Job.{Job}
 use Rattle.driver.specs.declared.progress.Progress.{Progress}
-use Rattle.notation.specs.Choice.{if_then_else_, among}
+use Rattle.notation.specs.Choice.{if_then_else_, _or_, among}
 
 -- the record after a register write
 unfoldable pub put : Controller → ℕ → ℕ → Controller
@@ -138,3 +138,7 @@ serve job payload event p =
     if eqb event 14 then ends p (p .controller) Reset
     else if eqb event 4 then finishes p
     else atStatus job payload (reads (p .controller) 0) p
+
+-- there is such work, or the driver waits at F8h: `serve` then leaves all as it is
+unfoldable pub hasWork : ℕ → Controller → Bool
+hasWork event c = eqb event 14 or eqb event 4 or not (eqb (reads c 0) 0xF8)

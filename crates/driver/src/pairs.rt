@@ -1,9 +1,11 @@
 // The run over the script's pairs.
 use crate::job::Job;
 use crate::progress::Progress;
+use crate::service::asks;
 use crate::service::serve;
 use answer::Answer;
 use answer::ending::Ending;
+ghost use mathlib.Core.Bool.{false};
 ghost use mathlib.Core.Path.{_≡_};
 ghost use mathlib.Core.List.{List, _∷_};
 ghost use Prim.Native.Nat.{ℕ, _≤_};
@@ -29,7 +31,8 @@ fn note(out: &mut [u8], at: usize, event: u8, value: u8) -> usize
     at
 }
 
-// Takes pairs while the job lasts; what it breaks with is the end of the job.
+// Takes pairs while the job lasts; what it breaks with is the end of the job. (Between two services the record and the number of pairs
+// are held beside the progress, so that a pair the driver only waits through moves the record alone.)
 pub(crate) fn work(
     start: Progress,
     job: Job,
@@ -37,31 +40,36 @@ pub(crate) fn work(
     out: &mut [u8],
     script: &[u8],
 ) -> Progress
-    requires { ⌜ (job .n ≤ 68) × (start .events ≡ 0) ⌝ }
+    requires { ⌜ (job .n ≤ 68) × (start .events ≡ 0) × (start .over ≡ false) ⌝ }
     ensures result { λ r. ⌜ (closes r) .result ≡ (runs job (now (payload .entry)) start (now (script .entry))) .result ⌝ }
     ensures fetched { λ r. ⌜ r .fetched ≡ (runs job (now (payload .entry)) start (now (script .entry))) .fetched ⌝ }
     ensures sent { λ _. ⌜ now (out .exit) ≡ laid ((runs job (now (payload .entry)) start (now (script .entry))) .sent) (now (out .entry)) ⌝ }
 {
     let mut p = start;
+    let mut c = start.controller;
+    let mut events = 0;
     let mut at = 0;
     let mut i = 0;
     let end = loop {
-        let c = p.controller;
         if script.len() - i < 2 {
-            break p.end(c, Ending::Unfinished);
+            break p.reach(c, events).end(c, Ending::Unfinished);
         }
         let event = script[i];
         let reply = c.event(event, script[i + 1]);
-        let taken = p.take_pair(reply.controller);
         let answer = reply.answer;
         match answer {
-            Answer::Refused(why) => break p.end(c, Ending::Refused(why)),
+            Answer::Refused(why) => break p.reach(c, events).end(c, Ending::Refused(why)),
             Answer::Accepted(value) => {
                 at = note(out, at, event, value);
-                p = serve(job, payload, event, taken);
+                c = reply.controller;
+                events += 1;
                 i += 2;
-                if p.over {
-                    break p;
+                if asks(event, c) {
+                    p = serve(job, payload, event, p.reach(c, events));
+                    c = p.controller;
+                    if p.over {
+                        break p;
+                    }
                 }
             }
         }

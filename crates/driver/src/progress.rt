@@ -7,7 +7,7 @@ use controller::record::Controller;
 ghost use mathlib.Core.Path.{_≡_};
 ghost use Prim.Native.Nat.{_≤_, _<_};
 ghost use Rattle.driver.specs.Service.{fetchOne, fetch, stopsRead};
-ghost use Rattle.driver.specs.Run.{starts, taking, closes, resultOf};
+ghost use Rattle.driver.specs.Run.{starts, reaching, closes, resultOf};
 
 // What the driver keeps from one pair of the script to the next.
 pub struct Progress {
@@ -42,13 +42,12 @@ impl Progress {
         }
     }
 
-    // A pair is taken.
-    pub(crate) fn take_pair(mut self, c: Controller) -> Progress
-        requires { ⌜ self .events < 18446744073709551615 ⌝ }
-        ensures { λ r. ⌜ r ≡ taking self c ⌝ }
+    // The record and the pairs taken, as they are now.
+    pub(crate) fn reach(mut self, c: Controller, events: usize) -> Progress
+        ensures { λ r. ⌜ r ≡ reaching self c events ⌝ }
     {
         self.controller = c;
-        self.events += 1;
+        self.events = events;
         self
     }
 

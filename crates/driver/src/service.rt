@@ -8,9 +8,10 @@ use crate::accesses::send_data;
 use crate::job::Job;
 use crate::progress::Progress;
 use answer::ending::Ending;
+use controller::record::Controller;
 ghost use mathlib.Core.Path.{_≡_};
 ghost use Prim.Native.Nat.{_≤_};
-ghost use Rattle.driver.specs.Service.{atStatus, serve as serves};
+ghost use Rattle.driver.specs.Service.{atStatus, hasWork, serve as serves};
 
 // The work at each status. At F8h the driver waits.
 fn at_status(job: Job, payload: &[u8], status: u8, p: Progress) -> Progress
@@ -32,6 +33,20 @@ fn at_status(job: Job, payload: &[u8], status: u8, p: Progress) -> Progress
         0x38 => p.end(put(c, 3, 0x40), Ending::Lost),
         0x00 | 0x70 | 0x78 => p.end(c, Ending::Fault),
         _ => p,
+    }
+}
+
+// The driver has work after this event: it is not waiting through it at F8h.
+pub(crate) fn asks(event: u8, c: Controller) -> bool
+    ensures { λ r. ⌜ r ≡ hasWork event c ⌝ }
+{
+    match event {
+        14 => true,
+        4 => true,
+        _ => {
+            let waiting = reads(c, 0) == 0xF8;
+            !waiting
+        }
     }
 }
 

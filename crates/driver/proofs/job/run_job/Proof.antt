@@ -37,7 +37,7 @@ start-requires c κs = small _ _ _ _ _ (sym (c .before .before .before .is-malfo
 
 work-requires : tie.Need-work-requires
 unfolding starts
-work-requires c κs = (small _ _ _ _ _ (sym (c .before .before .before .before .before .is-malformed .ensures) ∙ c .before .before .before .before .if1 .left), ap (λ (p : Progress). p .events) (c .before .start .ensures))
+work-requires c κs = (small _ _ _ _ _ (sym (c .before .before .before .before .before .is-malformed .ensures) ∙ c .before .before .before .before .if1 .left), ap (λ (p : Progress). p .events) (c .before .start .ensures), ap (λ (p : Progress). p .over) (c .before .start .ensures))
 
 hand-up-requires : tie.Need-hand-up-requires
 hand-up-requires c κs = small _ _ _ _ _ (sym (c .before .before .before .before .before .before .before .before .before .is-malformed .ensures) ∙ c .before .before .before .before .before .before .before .before .if1 .left)

@@ -1,109 +1,160 @@
 -- `work` is `run`: the run over what is left of the script, from the progress so far, always leads to what the whole run gives.
+use mathlib.Core.Bool.{false}
 use mathlib.Core.Path.{_≡_, refl, sym, ap, _∙_}
 use Prim.Native.Nat.{_≤_, _-_, _+_, _<_}
 use native.Mathlib.Omega.{arith}
 use borrow.Author.Needs.{needs}
 use lib.ListN.{length, drop, getD}
 use denote.Ref.{now}
-use Rattle.driver.specs.Run.{run, closes, taking}
-use Rattle.driver.specs.Service.{serve}
+use Rattle.driver.specs.Run.{run, closes, taking, reaching}
+use Rattle.answer.specs.declared.ending.Ending.the-variants.{Unfinished, Refused}
+use Rattle.driver.specs.Service.{serve, ends}
 use Rattle.driver.specs.declared.progress.Progress.{Progress}
-use Rattle.notation.proofs.Overlay.{at-start}
-use Rattle.driver.proofs.Script.{Leads, ended, passes, runs-out, refused, over, on}
-use Rattle.driver.proofs.Steps.{serve-events}
+use Rattle.driver.proofs.Script.{Leads, begun, ended, passes, runs-out, refused, over, on}
+use Rattle.driver.proofs.Steps.{serve-events, waits, reached}
 use Rattle.driver.proofs.pairs.work.Statement.{statement}
 use Rattle.driver.proofs.pairs.work.Tie as tie
 
 abbrev Inv-loop : tie.InvT-loop
-Inv-loop job payload out₀ script p₀ at₀ i₀ out p at i =
-    (i ≤ length script) × (p .events ≤ i) × (at ≤ length out) × (length out ≡ length out₀) ×
-    Leads (run job payload p (drop i script)) (run job payload p₀ script) at out out₀
+Inv-loop job payload out₀ script p₀ c₀ events₀ at₀ i₀ out p c events at i =
+    (i ≤ length script) × (events ≤ i) × (at ≤ length out) × (length out ≡ length out₀) × (p .over ≡ false) ×
+    Leads (run job payload (reaching p c events) (drop i script)) (run job payload p₀ script) at out out₀
 
 abbrev μ-loop : tie.MeasureT-loop
-μ-loop job payload out₀ script p₀ at₀ i₀ out p at i = length script - i
+μ-loop job payload out₀ script p₀ c₀ events₀ at₀ i₀ out p c events at i = length script - i
 
 loop-holds : tie.Need-loop-holds Inv-loop μ-loop
-loop-holds c = (search needs, search needs, search needs, refl, record { result = refl; fetched = refl; sent = at-start _ _ })
+loop-holds c =
+    let s = c .before .before .before .before in
+    let job = s .args .job in
+    let payload = now (s .args .payload) in
+    let script = now (s .args .script) in
+    (search needs, search needs, search needs, refl, s .pre .2, begun (ap (λ (q : Progress). run job payload q script) (reached (s .args .start) 0 (s .pre .1))))
 
-serve-requires : tie.Need-serve-requires Inv-loop μ-loop
-serve-requires c κs = c .before .before .before .before .before .before .before .before .before .before .before .before .before .before .before .before .before .pre .0
+add-events : tie.Need-add-events Inv-loop μ-loop
+add-events c = omega (arith, c .before .before .before .before .before .before .before .before .before .before .before .if1 .left, c .before .before .before .before .before .before .before .before .before .before .before .before .loop .inv, c .before .before .before .before .before .before .before .before .before .before .before .before .before .before .before .before .before .good)
 
 add-i : tie.Need-add-i Inv-loop μ-loop
-add-i c =
-    let here = c .before .before .before .before .before .before .before .before .before .before .before .before .before .before in
-    omega (arith, c .before .before .before .before .before .before .before .before .before .before .before .before .if1 .left, here .loop .inv, here .before .before .before .before .good)
+add-i c = omega (arith, c .before .before .before .before .before .before .before .before .before .before .before .if1 .left, c .before .before .before .before .before .before .before .before .before .before .before .before .loop .inv, c .before .before .before .before .before .before .before .before .before .before .before .before .before .before .before .before .before .good)
+
+serve-requires : tie.Need-serve-requires Inv-loop μ-loop
+serve-requires c κs = c .before .before .before .before .before .before .before .before .before .before .before .before .before .before .before .before .before .before .before .before .pre .0
 
 loop-less : tie.Need-loop-less Inv-loop μ-loop
-loop-less c = omega (arith, c .before .before .before .before .before .before .before .before .before .before .before .before .before .if1 .left)
+loop-less c = omega (arith, c .before .before .before .before .before .before .before .before .before .before .before .before .before .before .before .before .before .if1 .left)
 
 loop-again : tie.Need-loop-again Inv-loop μ-loop
-unfolding taking
+unfolding taking reaching
 loop-again c =
-    let here = c .before .before .before .before .before .before .before .before .before .before .before .before .before .before .before in
-    let s = here .before .before .before .before in
-    let l = here .loop in
+    let l = c .before .before .before .before .before .before .before .before .before .before .before .before .before .before .before .before .before .before .loop in
+    let s = c .before .before .before .before .before .before .before .before .before .before .before .before .before .before .before .before .before .before .before .before .before .before .before in
     let job = s .args .job in
     let payload = now (s .args .payload) in
     let script = now (s .args .script) in
-    let event = c .before .before .before .before .before .before .before .before .before .before .event in
-    let note = c .before .before .before .before .note in
-    let q = c .before .serve .result in
+    let p = reaching (l .p) (l .c) (l .events) in
     let number = getD script (l .i) 0 in
-    let more : l .i + 1 < length script = omega (arith, c .before .before .before .before .before .before .before .before .before .before .before .before .before .if1 .left) in
-    let accepted = c .before .before .before .before .before .before .before .answer2 .given .1 in
-    let served = c .before .serve .ensures ∙ ap (λ (t : Progress). serve job payload number t) (c .before .before .before .before .before .before .before .before .before .take-pair .ensures) in
-    let pair = on job payload (l .p) script (l .i) more (event .result) (event .ensures) _ accepted q served (c .if2 .left) in
-    let events : q .events ≡ l .p .events + 1 = ap (λ (t : Progress). t .events) served ∙ serve-events job payload number (taking (l .p) (event .result .controller)) in (
+    let event = c .before .before .before .before .before .before .before .before .before .before .before .before .before .before .event in
+    let note = c .before .before .before .before .before .before .before .before .before .note in
+    let more : l .i + 1 < length script = omega (arith, c .before .before .before .before .before .before .before .before .before .before .before .before .before .before .before .before .before .if1 .left) in
+    let accepted = c .before .before .before .before .before .before .before .before .before .before .before .before .answer2 .given .1 in
+    let taken = taking p (event .result .controller) in
+    let q = c .before .before .serve .result in
+    let served = c .before .before .serve .ensures ∙ ap (λ (t : Progress). serve job payload number t) (c .before .before .before .reach3 .ensures) in
+    let events = ap (λ (t : Progress). t .events) served ∙ serve-events job payload number taken in
+    let pair = on job payload p script (l .i) more (event .result) (event .ensures) _ accepted q served (c .if3 .left) (reached q (l .events + 1) events) in (
       omega (arith, more),
-      omega (arith, events, l .inv .1),
+      omega (arith, l .inv .1),
       note .ensures .0 .0,
       note .ensures .0 .1 ∙ l .inv .3,
-      passes number _ pair (note .ensures .1) (l .inv .4),
+      c .if3 .left,
+      passes number _ pair (note .ensures .1) (l .inv .5),
     )
 
-returns : tie.Need-returns Inv-loop μ-loop
-returns c =
-    let here = c .before .before .before in
-    let s = here .before .before .before .before in
-    let l = here .loop in
+loop-less-2 : tie.Need-loop-less-2 Inv-loop μ-loop
+loop-less-2 c = omega (arith, c .before .before .before .before .before .before .before .before .before .before .before .before .before .if1 .left)
+
+loop-again-2 : tie.Need-loop-again-2 Inv-loop μ-loop
+unfolding taking reaching
+loop-again-2 c =
+    let l = c .before .before .before .before .before .before .before .before .before .before .before .before .before .before .loop in
+    let s = c .before .before .before .before .before .before .before .before .before .before .before .before .before .before .before .before .before .before .before in
     let job = s .args .job in
     let payload = now (s .args .payload) in
     let script = now (s .args .script) in
-    ended (c .end .result) (runs-out job payload (l .p) script (l .i) (c .before .if1 .taken) ∙ ap closes (sym (c .end .ensures))) (l .inv .4)
+    let p = reaching (l .p) (l .c) (l .events) in
+    let number = getD script (l .i) 0 in
+    let event = c .before .before .before .before .before .before .before .before .before .before .event in
+    let note = c .before .before .before .before .before .note in
+    let more : l .i + 1 < length script = omega (arith, c .before .before .before .before .before .before .before .before .before .before .before .before .before .if1 .left) in
+    let accepted = c .before .before .before .before .before .before .before .before .answer2 .given .1 in
+    let taken = taking p (event .result .controller) in
+    let idle = sym (c .before .asks .ensures) ∙ c .if2 .left in
+    let pair = on job payload p script (l .i) more (event .result) (event .ensures) _ accepted taken (sym (waits job payload number taken idle)) (l .inv .4) refl in (
+      omega (arith, more),
+      omega (arith, l .inv .1),
+      note .ensures .0 .0,
+      note .ensures .0 .1 ∙ l .inv .3,
+      l .inv .4,
+      passes number _ pair (note .ensures .1) (l .inv .5),
+    )
+
+same-length : tie.Need-same-length Inv-loop μ-loop
+same-length c = c .before .before .before .loop .inv .3
+
+returns : tie.Need-returns Inv-loop μ-loop
+unfolding reaching
+returns c =
+    let l = c .before .before .before .loop in
+    let s = c .before .before .before .before .before .before .before .before in
+    let job = s .args .job in
+    let payload = now (s .args .payload) in
+    let script = now (s .args .script) in
+    let p = reaching (l .p) (l .c) (l .events) in
+    let number = getD script (l .i) 0 in
+    let stopped = c .end .ensures ∙ ap (λ (t : Progress). ends t (l .c) Unfinished) (c .before .reach .ensures) in
+    ended (c .end .result) (runs-out job payload p script (l .i) (c .before .before .if1 .taken) ∙ ap closes (sym stopped)) (l .inv .5)
+
+same-length-2 : tie.Need-same-length-2 Inv-loop μ-loop
+same-length-2 c = c .before .before .before .before .before .before .before .before .before .loop .inv .3
 
 returns-2 : tie.Need-returns-2 Inv-loop μ-loop
+unfolding reaching
 returns-2 c =
-    let here = c .before .before .before .before .before .before .before .before .before .before in
-    let s = here .before .before .before .before in
-    let l = here .loop in
+    let l = c .before .before .before .before .before .before .before .before .before .loop in
+    let s = c .before .before .before .before .before .before .before .before .before .before .before .before .before .before in
     let job = s .args .job in
     let payload = now (s .args .payload) in
     let script = now (s .args .script) in
+    let p = reaching (l .p) (l .c) (l .events) in
+    let number = getD script (l .i) 0 in
     let event = c .before .before .before .before .before .event in
     let more : l .i + 1 < length script = omega (arith, c .before .before .before .before .before .before .before .before .if1 .left) in
-    let refusal = refused job payload (l .p) script (l .i) more (event .result) (event .ensures) _ (c .before .before .answer .given .1) in
-    ended (c .end2 .result) (refusal ∙ ap closes (sym (c .end2 .ensures))) (l .inv .4)
+    let refusal = refused job payload p script (l .i) more (event .result) (event .ensures) _ (c .before .before .before .answer .given .1) in
+    let stopped = c .end2 .ensures ∙ ap (λ (t : Progress). ends t (l .c) (Refused (c .before .before .before .answer .given .0 .0))) (c .before .reach2 .ensures) in
+    ended (c .end2 .result) (refusal ∙ ap closes (sym stopped)) (l .inv .5)
 
 same-length-3 : tie.Need-same-length-3 Inv-loop μ-loop
-same-length-3 c = c .before .before .before .before .note .ensures .0 .1 ∙ c .before .before .before .before .before .before .before .before .before .before .before .before .before .before .before .loop .inv .3
+same-length-3 c = c .before .before .before .before .before .before .before .before .before .note .ensures .0 .1 ∙ c .before .before .before .before .before .before .before .before .before .before .before .before .before .before .before .before .before .before .loop .inv .3
 
 returns-3 : tie.Need-returns-3 Inv-loop μ-loop
+unfolding taking reaching
 returns-3 c =
-    let here = c .before .before .before .before .before .before .before .before .before .before .before .before .before .before .before in
-    let s = here .before .before .before .before in
-    let l = here .loop in
+    let l = c .before .before .before .before .before .before .before .before .before .before .before .before .before .before .before .before .before .before .loop in
+    let s = c .before .before .before .before .before .before .before .before .before .before .before .before .before .before .before .before .before .before .before .before .before .before .before in
     let job = s .args .job in
     let payload = now (s .args .payload) in
     let script = now (s .args .script) in
-    let event = c .before .before .before .before .before .before .before .before .before .before .event in
-    let note = c .before .before .before .before .note in
-    let q = c .before .serve .result in
+    let p = reaching (l .p) (l .c) (l .events) in
     let number = getD script (l .i) 0 in
-    let more : l .i + 1 < length script = omega (arith, c .before .before .before .before .before .before .before .before .before .before .before .before .before .if1 .left) in
-    let accepted = c .before .before .before .before .before .before .before .answer2 .given .1 in
-    let served = c .before .serve .ensures ∙ ap (λ (t : Progress). serve job payload number t) (c .before .before .before .before .before .before .before .before .before .take-pair .ensures) in
-    let pair = over job payload (l .p) script (l .i) more (event .result) (event .ensures) _ accepted q served (c .if2 .taken) in
-    ended q refl (passes number _ pair (note .ensures .1) (l .inv .4))
+    let event = c .before .before .before .before .before .before .before .before .before .before .before .before .before .before .event in
+    let note = c .before .before .before .before .before .before .before .before .before .note in
+    let more : l .i + 1 < length script = omega (arith, c .before .before .before .before .before .before .before .before .before .before .before .before .before .before .before .before .before .if1 .left) in
+    let accepted = c .before .before .before .before .before .before .before .before .before .before .before .before .answer2 .given .1 in
+    let taken = taking p (event .result .controller) in
+    let q = c .before .before .serve .result in
+    let served = c .before .before .serve .ensures ∙ ap (λ (t : Progress). serve job payload number t) (c .before .before .before .reach3 .ensures) in
+    let pair = over job payload p script (l .i) more (event .result) (event .ensures) _ accepted q served (c .if3 .taken) in
+    ended q refl (passes number _ pair (note .ensures .1) (l .inv .5))
 
 pub work-spec : {M : Type 1} → statement M
 work-spec =
@@ -114,22 +165,28 @@ work-spec =
     loop-holds
     (λ c. search needs)
     (λ c κs. search needs)
+    (λ c κs. search needs)
     (λ c. search needs)
     (λ c. search needs)
+    (λ c. search needs)
+    (λ c κs. search needs)
     (λ c. search needs)
     (λ c κs. search needs)
     (λ c κs. search needs)
     (λ c. search needs)
     (λ c κs. search needs)
-    (λ c. search needs)
+    add-events
+    add-i
+    (λ c κs. search needs)
     (λ c κs. search needs)
     serve-requires
-    add-i
     loop-less
     loop-again
-    (λ c. search needs)
+    loop-less-2
+    loop-again-2
+    same-length
     returns
-    (λ c. search needs)
+    same-length-2
     returns-2
     same-length-3
     returns-3)
