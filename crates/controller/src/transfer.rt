@@ -11,7 +11,7 @@ ghost use mathlib.Core.Bool.{true};
 ghost use Prim.Native.Nat.{_<_};
 ghost use Rattle.controller.specs.Record.{sound};
 ghost use Rattle.controller.specs.Reply.{outcomeOf};
-ghost use Rattle.controller.specs.Transfer.{cursor, isLast, dataOut, addressStatus, byteOut, acknowledgesLast, received, dataIn, slaveIn, byteIn};
+ghost use Rattle.controller.specs.Transfer.{cursor, isLast, dataOut, addressStatus, byteOut, acknowledgesLast, dataIn, slaveIn, byteIn};
 
 // The status after an address byte that was acknowledged (0) or not (1).
 fn address_status(direction: Direction, nack: u8) -> u8
@@ -102,31 +102,24 @@ impl Controller {
         }
     }
 
-    // The byte stored at its place, and counted.
-    fn received(mut self, byte: u8) -> Controller
-        requires { ⌜ self .moved < 68 ⌝ }
-        ensures { λ r. ⌜ r ≡ received self byte ⌝ }
-    {
-        let at = self.cursor() as usize;
-        self.buffer[at] = byte;
-        self.moved += 1;
-        self
-    }
-
-    // A data byte in: the status at the last byte is `taken` if it is acknowledged, else `ended`.
-    fn data_in(self, byte: u8, taken: u8, ended: u8) -> Reply
+    // A data byte in, stored at its place and counted: the status at the last byte is `taken` if it is acknowledged, else `ended`.
+    fn data_in(mut self, byte: u8, taken: u8, ended: u8) -> Reply
         requires { ⌜ self .moved < 68 ⌝ }
         ensures { λ r. ⌜ outcomeOf r ≡ dataIn self byte taken ended ⌝ }
     {
-        let next = self.received(byte);
-        if self.is_last() {
-            if self.acknowledges_last() {
-                next.give(taken, 0)
+        let last = self.is_last();
+        let acknowledged = self.acknowledges_last();
+        let at = self.cursor() as usize;
+        self.buffer[at] = byte;
+        self.moved += 1;
+        if last {
+            if acknowledged {
+                self.give(taken, 0)
             } else {
-                next.give(ended, 1)
+                self.give(ended, 1)
             }
         } else {
-            next.accept(0)
+            self.accept(0)
         }
     }
 

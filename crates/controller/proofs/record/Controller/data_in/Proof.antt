@@ -1,22 +1,27 @@
 -- `data_in` is `dataIn`: what is known at each return settles the tests of the definition.
 use mathlib.Core.Path.{sym, _∙_}
+use native.Mathlib.Omega.{arith}
 use borrow.Author.Needs.{needs}
-use Rattle.controller.specs.Transfer.{dataIn}
-use Rattle.notation.proofs.Cases.{cases}
+use Rattle.controller.specs.Transfer.{received, dataIn}
+use Rattle.notation.proofs.Cases.{if-true, if-false}
+use Rattle.controller.proofs.Soundness.{cursor-below}
 use Rattle.controller.proofs.record.Controller.data_in.Statement.{statement}
 use Rattle.controller.proofs.record.Controller.data_in.Tie as tie
 
+element-write-self : tie.Need-element-write-self
+element-write-self c = omega (arith, c .cursor .ensures, cursor-below (c .before .before .before .args .t1) (c .before .before .before .pre))
+
 returns : tie.Need-returns
-unfolding dataIn
-returns c = c .give .ensures ∙ rw (c .before .before .before .before .before .received .ensures) (search (sym (c .before .before .acknowledges-last .ensures) ∙ c .before .if2 .taken, sym (c .before .before .before .before .is-last .ensures) ∙ c .before .before .before .if1 .taken, cases))
+unfolding dataIn received
+returns c = c .give .ensures ∙ rw (c .before .before .before .cursor .ensures) (sym (if-true _ _ _ (sym (c .before .before .before .before .before .is-last .ensures) ∙ c .before .before .if1 .taken) ∙ if-true _ _ _ (sym (c .before .before .before .before .acknowledges-last .ensures) ∙ c .before .if2 .taken)))
 
 returns-2 : tie.Need-returns-2
-unfolding dataIn
-returns-2 c = c .give2 .ensures ∙ rw (c .before .before .before .before .before .received .ensures) (search (sym (c .before .before .acknowledges-last .ensures) ∙ c .before .if2 .left, sym (c .before .before .before .before .is-last .ensures) ∙ c .before .before .before .if1 .taken, cases))
+unfolding dataIn received
+returns-2 c = c .give2 .ensures ∙ rw (c .before .before .before .cursor .ensures) (sym (if-true _ _ _ (sym (c .before .before .before .before .before .is-last .ensures) ∙ c .before .before .if1 .taken) ∙ if-false _ _ _ (sym (c .before .before .before .before .acknowledges-last .ensures) ∙ c .before .if2 .left)))
 
 returns-3 : tie.Need-returns-3
-unfolding dataIn
-returns-3 c = c .accept .ensures ∙ rw (c .before .before .before .received .ensures) (search (sym (c .before .before .is-last .ensures) ∙ c .before .if1 .left, cases))
+unfolding dataIn received
+returns-3 c = c .accept .ensures ∙ rw (c .before .before .cursor .ensures) (sym (if-false _ _ _ (sym (c .before .before .before .before .is-last .ensures) ∙ c .before .if1 .left)))
 
 pub data-in-spec : {M : Type 1} → statement M
 data-in-spec =
@@ -25,6 +30,9 @@ data-in-spec =
     (λ c κs. search needs)
     (λ c κs. search needs)
     (λ c κs. search needs)
+    (λ c. search needs)
+    element-write-self
+    (λ c. search needs)
     (λ c κs. search needs)
     (λ c κs. search needs)
     (λ c κs. search needs)
