@@ -2,20 +2,9 @@
 use crate::extent::data_size;
 use crate::print::print;
 use crate::state::print_state;
-use address::number::Address;
-use address::number::Direction;
 use console::work::work;
 use controller::record::Controller;
-use driver::job::Job;
-
-// Kind 0 is a write.
-fn direction(kind: u8) -> Direction {
-    if kind == 0 {
-        Direction::Write
-    } else {
-        Direction::Read
-    }
-}
+use numbers::jobs::job_for;
 
 // The whole group 03 KIND ADDRESS N ..: prints the job's three lines and the state after it. (A group that is whole passes the two
 // tests.)
@@ -27,13 +16,7 @@ pub(crate) fn work_job(c: Controller, group: &[u8]) -> Controller {
     if group.len() < script {
         return c;
     }
-    let direction = direction(group[1]);
-    let address = Address(group[2]);
-    let job = Job {
-        direction,
-        address,
-        n: group[3],
-    };
+    let job = job_for(group[1], group[2], group[3]);
     let mut text = [0u8; 1024];
     let worked = work(c, job, &group[4..script - 2], &group[script..], &mut text);
     print(&text, worked.end);

@@ -5,7 +5,7 @@ use crate::jobs::work_job;
 use crate::state::print_buffer;
 use crate::state::print_reply;
 use controller::record::Controller;
-use controller::reply::Reply;
+use numbers::groups::access;
 
 // The longest trace.
 const LIMIT: usize = 65536;
@@ -16,15 +16,6 @@ struct Worked {
     at: usize,
 }
 
-// One group of kind 00, 01 or 02.
-fn work_access(c: Controller, kind: u8, place: u8, value: u8) -> Reply {
-    match kind {
-        0 => c.read(place),
-        1 => c.write(place, value),
-        _ => c.event(place, value),
-    }
-}
-
 // One whole group: the record after it.
 fn work_group(c: Controller, group: &[u8]) -> Controller {
     if group.len() < 3 {
@@ -33,7 +24,7 @@ fn work_group(c: Controller, group: &[u8]) -> Controller {
     if group[0] == 3 {
         return work_job(c, group);
     }
-    let reply = work_access(c, group[0], group[1], group[2]);
+    let reply = access(c, group[0], group[1], group[2]);
     print_reply(reply);
     reply.controller
 }

@@ -10,8 +10,9 @@ use lib.ListN.{length, take, drop, length-drop}
 use lib.Seq.{take-all}
 use Rattle.driver.specs.Run.{jobOf}
 use Rattle.driver.specs.declared.job.Job.{Job}
-use Rattle.job.specs.Program.{enabled, kindOf, sizeOf, dataSize, badInput}
+use Rattle.job.specs.Program.{kindOf, sizeOf, dataSize, badInput}
 use Rattle.notation.proofs.Cases.{or-left-off, or-right-off, split}
+use Rattle.numbers.specs.Jobs.{enabled}
 
 -- a data length is a byte
 pub data-small : (input : List ℕ) → sizeOf input < 256 → dataSize input < 256

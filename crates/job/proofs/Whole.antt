@@ -17,9 +17,10 @@ use Rattle.controller.specs.Reply.{refuses, accepts}
 use Rattle.controller.specs.Reset.{resetWith}
 use Rattle.controller.specs.declared.record.Controller.{Controller}
 use Rattle.driver.specs.Run.{Report, declines}
-use Rattle.job.specs.Program.{enabled, badInput, programReport, programText}
+use Rattle.job.specs.Program.{badInput, programReport, programText}
 use Rattle.notation.proofs.Cases.{split}
 use Rattle.notation.specs.Choice.{if_then_else_, _and_, _or_, among}
+use Rattle.numbers.specs.Jobs.{enabled}
 
 enabled-places : length (enabled .buffer) ≡ 68
 unfolding if_then_else_ _and_ _or_ among flagsOf kind statusOf response indirectAt barsWrite writeSound writeOf keeps controlled badCount enables writeFlags writeControl hostSound moveSound sound wrote refuses accepts resetWith

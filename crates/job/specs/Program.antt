@@ -4,19 +4,11 @@ use mathlib.Core.List.{List}
 use Prim.Native.Nat.{ℕ, _+_}
 use lib.Dec.{eqb, ltb}
 use lib.ListN.{length, getD, take, drop}
-use Rattle.address.specs.declared.number.Direction.the-variants.{Write, Read}
-use Rattle.address.specs.declared.number.Direction.{Direction}
 use Rattle.console.specs.Report.{reportText}
-use Rattle.controller.specs.Access.{writeOf}
-use Rattle.controller.specs.Reset.{fresh}
-use Rattle.controller.specs.declared.record.Controller.{Controller}
 use Rattle.driver.specs.Run.{Report, declines, jobOf}
 use Rattle.driver.specs.declared.job.Job.{Job}
 use Rattle.notation.specs.Choice.{if_then_else_, _or_}
-
--- "a fresh controller enabled by 40h"
-abbrev pub enabled : Controller
-enabled = (writeOf fresh 3 0x40) .next
+use Rattle.numbers.specs.Jobs.{enabled, jobFor}
 
 -- "The program's input: kind (0 write, 1 read), address, n, data for a write, script"
 abbrev pub kindOf : List ℕ → ℕ
@@ -25,11 +17,8 @@ kindOf input = getD input 0 0
 abbrev pub sizeOf : List ℕ → ℕ
 sizeOf input = getD input 2 0
 
-unfoldable pub directionFor : ℕ → Direction
-directionFor kind = if eqb kind 0 then Write else Read
-
 abbrev pub jobIn : List ℕ → Job
-jobIn input = record { direction = directionFor (kindOf input); address = record { 0 = getD input 1 0 }; n = sizeOf input }
+jobIn input = jobFor (kindOf input) (getD input 1 0) (sizeOf input)
 
 -- the data, for a write: so many bytes
 unfoldable pub dataSize : List ℕ → ℕ

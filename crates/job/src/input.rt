@@ -1,53 +1,26 @@
 // The program's input: kind, address, n, data for a write, script.
-use address::number::Address;
-use address::number::Direction;
 use answer::ending::Ending;
 use console::report::put_job;
 use console::work::work;
-use controller::record::Controller;
 use driver::job::Job;
 use driver::job::JobResult;
+use numbers::jobs::enable;
+use numbers::jobs::job_for;
 ghost use mathlib.Core.Path.{_≡_};
 ghost use Prim.Native.Nat.{_≤_};
 ghost use lib.ListN.{length};
 ghost use Rattle.console.specs.Report.{reportText};
 ghost use Rattle.text.specs.Text.{Holds};
 ghost use Rattle.driver.specs.Run.{declines, jobOf};
-ghost use Rattle.job.specs.Program.{enabled, directionFor, jobIn, dataSize, badInput, programText};
-
-// A fresh controller, enabled by 40h.
-fn enable() -> Controller
-    ensures { λ r. ⌜ r ≡ enabled ⌝ }
-{
-    let c = Controller::fresh();
-    let reply = c.write(3, 0x40);
-    reply.controller
-}
-
-// Kind 0 is a write.
-fn direction_for(kind: u8) -> Direction
-    ensures { λ r. ⌜ r ≡ directionFor kind ⌝ }
-{
-    let writes = kind == 0;
-    if writes {
-        Direction::Write
-    } else {
-        Direction::Read
-    }
-}
+ghost use Rattle.numbers.specs.Jobs.{enabled};
+ghost use Rattle.job.specs.Program.{jobIn, dataSize, badInput, programText};
 
 // The job that the input asks for.
 fn job_in(input: &[u8]) -> Job
     requires { ⌜ 3 ≤ length (now input) ⌝ }
     ensures { λ r. ⌜ r ≡ jobIn (now (input .entry)) ⌝ }
 {
-    let direction = direction_for(input[0]);
-    let address = Address(input[1]);
-    Job {
-        direction,
-        address,
-        n: input[2],
-    }
+    job_for(input[0], input[1], input[2])
 }
 
 // How many bytes of data the input has.

@@ -4,8 +4,8 @@ use borrow.Author.Needs.{needs}
 use Rattle.controller.specs.Access.{writeOf}
 use Rattle.controller.specs.Reply.{Outcome, outcomeOf}
 use Rattle.controller.specs.declared.record.Controller.{Controller}
-use Rattle.job.proofs.input.enable.Statement.{statement}
-use Rattle.job.proofs.input.enable.Tie as tie
+use Rattle.numbers.proofs.jobs.enable.Statement.{statement}
+use Rattle.numbers.proofs.jobs.enable.Tie as tie
 
 returns : tie.Need-returns
 unfolding outcomeOf

@@ -1,8 +1,8 @@
 -- `direction_for` is its definition.
-use Rattle.job.specs.Program.{directionFor}
+use Rattle.numbers.specs.Jobs.{directionFor}
 use Rattle.notation.proofs.Cases.{cases}
-use Rattle.job.proofs.input.direction_for.Statement.{statement}
-use Rattle.job.proofs.input.direction_for.Tie as tie
+use Rattle.numbers.proofs.jobs.direction_for.Statement.{statement}
+use Rattle.numbers.proofs.jobs.direction_for.Tie as tie
 
 returns : tie.Need-returns
 unfolding directionFor

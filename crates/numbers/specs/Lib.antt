@@ -1,0 +1,3 @@
+-- Requests given in numbers.
+pub mod Jobs
+pub mod Groups

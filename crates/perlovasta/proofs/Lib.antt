@@ -1,0 +1,4 @@
+-- Laws that the proofs here cite.
+pub mod Places
+pub mod Numbers
+pub mod Groups

@@ -1,0 +1,64 @@
+-- `perlovasta_trace` is `traceCall`: what is known at each return settles its tests, and `put_log` promises the rest.
+use mathlib.Core.Bool.{true, false}
+use mathlib.Core.List.{List, []}
+use mathlib.Core.Path.{_≡_, sym, ap, _∙_}
+use Prim.Native.Nat.{ℕ, _*_, _/_}
+use borrow.Author.Needs.{needs}
+use borrow.Author.Tests.{ltb-false}
+use lib.Dec.{ltb}
+use lib.ListN.{length}
+use denote.Ref.{now}
+use Rattle.notation.proofs.Cases.{if-true, if-false, or-left, or-right, or-false}
+use Rattle.controller.specs.Reset.{fresh}
+use Rattle.notation.specs.Choice.{_or_}
+use Rattle.notation.specs.Overlay.{laid}
+use Rattle.perlovasta.specs.Trace.{TraceCall, badTrace, logOf, traceCall}
+use Rattle.perlovasta.proofs.Groups.{same-room}
+use Rattle.perlovasta.proofs.entry.perlovasta_trace.Statement.{statement}
+use Rattle.perlovasta.proofs.entry.perlovasta_trace.Tie as tie
+
+-- nothing is done
+declined : (trace log : List ℕ) → badTrace trace or ltb (length log) (8 * (length trace / 3)) ≡ true →
+    (false ≡ (traceCall trace (length log)) .done) × (log ≡ laid ((traceCall trace (length log)) .logged) log)
+unfolding traceCall laid
+declined trace log bad =
+    let e : traceCall trace (length log) ≡ record { done = false; logged = [] } = if-true _ _ _ bad in
+    (sym (ap (λ (r : TraceCall). r .done) e), sym (ap (λ (r : TraceCall). laid (r .logged) log) e))
+
+returns : tie.Need-returns
+returns c = declined _ _ (or-left _ _ (sym (c .before .is-bad .ensures) ∙ c .if1 .taken))
+
+returns-2 : tie.Need-returns-2
+returns-2 c =
+    let s = c .before .before .before .before .before in
+    let room = length (now (s .args .log)) in
+    let groups = length (now (s .args .trace)) / 3 in
+    declined _ _ (or-right _ _ (same-room room groups ∙ c .if2 .taken))
+
+put-log-requires : tie.Need-put-log-requires
+put-log-requires c κs =
+    let s = c .before .before .before .before .before .before in
+    let room = length (now (s .args .log)) in
+    let groups = length (now (s .args .trace)) / 3 in
+    ltb-false room (8 * groups) (same-room room groups ∙ c .before .if2 .left)
+
+returns-3 : tie.Need-returns-3
+unfolding traceCall
+returns-3 c =
+    let s = c .before .before .before .before .before .before .before .before .before in
+    let trace = now (s .args .trace) in
+    let log = now (s .args .log) in
+    let e : traceCall trace (length log) ≡ record { done = true; logged = logOf fresh trace } =
+    if-false _ _ _ (or-false _ _ (sym (c .before .before .before .before .before .before .is-bad .ensures) ∙ c .before .before .before .before .before .if1 .left) (same-room (length log) (length trace / 3) ∙ c .before .before .before .before .if2 .left)) in
+    (sym (ap (λ (r : TraceCall). r .done) e), c .before .before .put-log .ensures ∙ sym (ap (λ (r : TraceCall). laid (r .logged) log) e))
+
+pub perlovasta-trace-spec : {M : Type 1} → statement M
+perlovasta-trace-spec =
+    tie.close
+    (tie.spec
+    (λ c κs. search needs)
+    returns
+    returns-2
+    put-log-requires
+    (λ c. search needs)
+    returns-3)

@@ -1,0 +1,31 @@
+-- What a call of `perlovasta_job` gives: document 01, Jobs, for a job given in numbers.
+use mathlib.Core.Bool.{Bool, true, false}
+use mathlib.Core.List.{List, []}
+use Prim.Native.Nat.{ℕ}
+use lib.Dec.{ltb}
+use Rattle.driver.specs.Run.{Report, declines, jobOf}
+use Rattle.notation.specs.Choice.{if_then_else_}
+use Rattle.numbers.specs.Jobs.{enabled, jobFor}
+use Rattle.perlovasta.specs.Report.{reportOf}
+
+-- its result, and the bytes that the destination, the out record and the report begin with after it, their rest as it was
+pub record JobCall : Type 0 where
+  pub done : Bool
+  pub handed : List ℕ
+  pub sent : List ℕ
+  pub told : List ℕ
+
+-- kind, address, n; data; the lengths of destination and out record; script. "of another kind is 21"
+unfoldable pub requestOf : ℕ → ℕ → ℕ → List ℕ → ℕ → ℕ → List ℕ → Report
+requestOf kind address n payload destinationLength outLength script =
+    if ltb 1 kind then declines enabled 21
+    else jobOf (jobFor kind address n) payload destinationLength outLength script enabled
+
+unfoldable pub tells : Report → JobCall
+tells r = record { done = true; handed = r .handed; sent = r .sent; told = reportOf (r .result) }
+
+-- the same with the length of the report. A report under 11 bytes: nothing is done
+unfoldable pub jobCall : ℕ → ℕ → ℕ → List ℕ → ℕ → ℕ → List ℕ → ℕ → JobCall
+jobCall kind address n payload destinationLength outLength script reportLength =
+    if ltb reportLength 11 then record { done = false; handed = []; sent = []; told = [] }
+    else tells (requestOf kind address n payload destinationLength outLength script)

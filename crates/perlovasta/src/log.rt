@@ -1,0 +1,89 @@
+// The eight bytes of the log for one group.
+use control::turn::Called;
+use control::turn::Edge;
+use control::turn::Turn;
+use controller::record::Controller;
+use controller::reply::Reply;
+ghost use mathlib.Core.Path.{_≡_};
+ghost use Rattle.controller.specs.Access.{readOf};
+ghost use Rattle.controller.specs.Reply.{outcomeOf};
+ghost use Rattle.perlovasta.specs.Log.{edgeMark, calledMark, turnNumber, pointerByte, entryOf};
+
+// What a register reads.
+fn reading(c: Controller, register: u8) -> u8
+    ensures { λ r. ⌜ r ≡ (readOf c register) .value ⌝ }
+{
+    let reply = c.read(register);
+    let answer = reply.answer;
+    answer.value()
+}
+
+// 16 for a START, at A0h.
+fn mark_edge(status: u8, edge: Edge) -> u8
+    ensures { λ r. ⌜ r ≡ edgeMark status edge ⌝ }
+{
+    match edge {
+        Edge::Stop => 0,
+        Edge::Start => {
+            let ended = status == 0xA0;
+            if ended { 16 } else { 0 }
+        }
+    }
+}
+
+// 16 for General Call.
+fn mark_called(called: Called) -> u8
+    ensures { λ r. ⌜ r ≡ calledMark called ⌝ }
+{
+    match called {
+        Called::Own => 0,
+        Called::General => 16,
+    }
+}
+
+// The turn's number, with its mark.
+fn number_turn(turn: Turn) -> u8
+    ensures { λ r. ⌜ r ≡ turnNumber turn ⌝ }
+{
+    match turn {
+        Turn::Off => 0,
+        Turn::Host(status, edge) => 1 + mark_edge(status, edge),
+        Turn::Free => 2,
+        Turn::Busy => 3,
+        Turn::Listen => 4,
+        Turn::Address => 5,
+        Turn::Send => 6,
+        Turn::Receive => 7,
+        Turn::SlaveReceive(called) => 8 + mark_called(called),
+        Turn::SlaveSend => 9,
+        Turn::Stopping => 10,
+        Turn::Restarting => 11,
+    }
+}
+
+// The pointer, with 128 where a software reset is armed.
+fn mark_pointer(pointer: u8, armed: bool) -> u8
+    ensures { λ r. ⌜ r ≡ pointerByte pointer armed ⌝ }
+{
+    let low = pointer % 128;
+    if armed { low + 128 } else { low }
+}
+
+// The bytes for one group.
+pub(crate) fn log_entry(reply: Reply) -> [u8; 8]
+    ensures { λ r. ⌜ r ≡ entryOf (outcomeOf reply) ⌝ }
+{
+    let answer = reply.answer;
+    let c = reply.controller;
+    let turn = c.turn;
+    [
+        answer.refused(),
+        answer.value(),
+        reading(c, 0),
+        reading(c, 3),
+        c.hand,
+        c.moved,
+        mark_pointer(c.pointer, c.armed),
+        number_turn(turn),
+    ]
+}
