@@ -11,11 +11,11 @@ fn main() {
     let archive = folder.join("libperlovasta.a");
     println!("cargo:rerun-if-env-changed={VARIABLE}");
     println!("cargo:rerun-if-changed={}", archive.display());
-    assert!(
-        archive.is_file(),
-        "{} is not there: run `rt staticlib perlovasta`, or name its folder in {VARIABLE}",
-        archive.display()
-    );
+    if !archive.is_file() {
+        let remedy = format!("run `rt staticlib perlovasta`, or name its folder in {VARIABLE}");
+        println!("cargo::error={} is not there: {remedy}", archive.display());
+        return;
+    }
     println!("cargo:rustc-link-search=native={}", folder.display());
     println!("cargo:rustc-link-lib=static=perlovasta");
 }
