@@ -3,6 +3,7 @@
 use crate::random::Random;
 use crate::reference::Input;
 use crate::script::random_script;
+use crate::steer::pair;
 use model::{Job, Kind};
 use perlovasta::{OUT_LEN, PLACES, REPORT_LEN};
 
@@ -66,6 +67,10 @@ impl JobCase {
     /// A random job; one in six has a flaw, and few have two.
     pub fn random(random: &mut Random) -> Self {
         let mut job = Self::well_formed(random);
+        if random.percent(1) {
+            let pairs = 200 + random.below(200);
+            job.wait(pairs);
+        }
         while random.percent(15) {
             let flaw = random.pick(&Flaw::ALL);
             job.spoil(random, flaw);
@@ -97,6 +102,19 @@ impl JobCase {
         job
     }
 
+    /// A job that takes more pairs than two bytes tell.
+    pub fn long(random: &mut Random) -> Self {
+        let mut job = Self::well_formed(random);
+        job.wait(0x1_0000);
+        job
+    }
+
+    /// Puts pairs before the script that change nothing: illegal edges while the bus is free.
+    fn wait(&mut self, pairs: usize) {
+        let waiting = [pair::ILLEGAL_EDGE, 0].repeat(pairs);
+        self.script.splice(0..0, waiting);
+    }
+
     fn of_the_model(&self) -> Job<'_> {
         Job {
             kind: if self.kind == 0 {
@@ -113,14 +131,21 @@ impl JobCase {
     fn spoil(&mut self, random: &mut Random, flaw: Flaw) {
         match flaw {
             Flaw::Kind => self.kind = 2 + random.below(254) as u8,
-            Flaw::Address => self.address = random.pick(&[0, 7, 0x78, 0x7F, 0xD0, 0xFF]),
-            Flaw::Count => self.n = random.pick_or_any(&[0, 69, 70, 255]),
+            Flaw::Address => self.address = random.pick_or_any(&[0, 7, 0x78, 0x7F, 0xD0]),
+            Flaw::Count => self.spoil_count(random),
             Flaw::Data => shorten(&mut self.data, random, usize::from(self.n)),
             Flaw::Destination => shorten(&mut self.destination, random, usize::from(self.n)),
             Flaw::Out => shorten(&mut self.out, random, OUT_LEN),
             Flaw::Script => self.script.push(random.byte()),
             Flaw::Report => shorten(&mut self.report, random, REPORT_LEN),
         }
+    }
+
+    /// Another n; what is lent is longer than any, so that n alone is wrong.
+    fn spoil_count(&mut self, random: &mut Random) {
+        self.n = random.pick_or_any(&[0, 69, 70, 255]);
+        self.data.extend(random.bytes(255));
+        self.destination.extend(random.bytes(255));
     }
 
     /// What is wrong with it.

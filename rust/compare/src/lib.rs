@@ -13,6 +13,7 @@ pub mod reference;
 pub mod rows;
 pub mod run;
 pub mod script;
+pub mod sections;
 pub mod steer;
 pub mod table;
 pub mod tally;

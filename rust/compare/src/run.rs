@@ -14,15 +14,14 @@ const JOBS: usize = 6;
 pub fn compare(seed: u64, least: u64) -> Result<Tally, Difference> {
     let mut random = Random::new(seed);
     let mut tally = Tally::new();
+    compare_job(JobCase::long(&mut random), &mut tally)?;
     while tally.total() < least {
         let mut case = TraceCase::random(&mut random);
         if check::trace(&mut case)? {
             tally.count_trace(&case.trace, &case.log);
         }
         for _ in 0..JOBS {
-            let mut case = JobCase::random(&mut random);
-            let given = check::job(&mut case)?;
-            tally.count_job(&case, given);
+            compare_job(JobCase::random(&mut random), &mut tally)?;
         }
         let flaw = random.pick(&[Flaw::Length, Flaw::Kind, Flaw::Log]);
         let mut case = TraceCase::flawed(&mut random, flaw);
@@ -31,4 +30,10 @@ pub fn compare(seed: u64, least: u64) -> Result<Tally, Difference> {
         }
     }
     Ok(tally)
+}
+
+fn compare_job(mut case: JobCase, tally: &mut Tally) -> Result<(), Difference> {
+    let given = check::job(&mut case)?;
+    tally.count_job(&case, given);
+    Ok(())
 }

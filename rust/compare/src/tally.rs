@@ -37,6 +37,8 @@ pub struct Tally {
     pub event_in_turn: [[u64; TURNS]; EVENTS],
     /// I2CCON written with ENSIO 1, by status / 8 and then by AA, STA, STO and MODE.
     pub control_at: [[u64; 16]; 32],
+    /// Jobs that took more pairs than one byte tells, and than two bytes tell.
+    pub long: [u64; 2],
     /// Answers of jobs.
     pub answer: [u64; 30],
     /// The number beside answer 28.
@@ -67,6 +69,7 @@ impl Tally {
             moves: [0; 8],
             event_in_turn: [[0; TURNS]; EVENTS],
             control_at: [[0; 16]; 32],
+            long: [0; 2],
             answer: [0; 30],
             beside: [0; 11],
             done: [[0; 256]; 2],

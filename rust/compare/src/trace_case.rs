@@ -47,7 +47,7 @@ pub fn steered(random: &mut Random, groups: usize, noise: usize) -> Vec<Group> {
 impl TraceCase {
     /// A trace that is run, with a log that is long enough.
     pub fn random(random: &mut Random) -> Self {
-        let groups = 1 + random.below(LONGEST);
+        let groups = random.below(LONGEST + 1);
         let noise = random.pick(&[2, 5, 10, 30]);
         let trace = steered(random, groups, noise);
         let longer = random.pick(&[0, 0, 1, 7, 8, 20]);

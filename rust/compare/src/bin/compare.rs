@@ -4,7 +4,8 @@
 //! has to occur never did.
 
 use compare::run;
-use compare::table::{missing, sections, text};
+use compare::sections::sections;
+use compare::table::{missing, text};
 use compare::tally::Tally;
 use std::env;
 use std::process::ExitCode;

@@ -14,7 +14,8 @@ const BYTE_OUT: u8 = 6;
 const BYTE_IN: u8 = 7;
 const LOST_IN_ADDRESS: u8 = 8;
 const LOST_IN_DATA: u8 = 9;
-const ILLEGAL_EDGE: u8 = 10;
+/// START or STOP at an illegal place.
+pub const ILLEGAL_EDGE: u8 = 10;
 const SDA_HELD: u8 = 11;
 const SCL_LOW: u8 = 12;
 const IDLE: u8 = 13;

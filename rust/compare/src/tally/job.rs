@@ -12,8 +12,11 @@ impl Tally {
             return;
         }
         let report = &case.report;
-        let events = report[3..11].try_into().expect("eight bytes");
-        self.pairs += u64::from_le_bytes(events);
+        let pairs = report[3..11].try_into().expect("eight bytes");
+        let pairs = u64::from_le_bytes(pairs);
+        self.pairs += pairs;
+        self.long[0] += u64::from(pairs > 0xFF);
+        self.long[1] += u64::from(pairs > 0xFFFF);
         self.answer[usize::from(report[0])] += 1;
         match report[0] {
             0 => self.done[usize::from(case.kind)][usize::from(case.n)] += 1,
