@@ -1,0 +1,138 @@
+//! The independent model behind the library's interface: fresh controllers, numbers and bytes.
+
+use crate::group::{CONTROL, Group, READ, WRITE};
+use model::{Called, Controller, Edge, Job, Kind, Refusal, Report, Turn, run_job};
+use perlovasta::{ENTRY_LEN, GROUP_LEN, REPORT_LEN};
+
+/// What a job is lent and given, as in `perlovasta::sys::job`.
+#[derive(Clone, Copy, Debug)]
+pub struct Input<'a> {
+    /// 0 write, 1 read.
+    pub kind: u8,
+    /// The seven-bit address.
+    pub address: u8,
+    /// How many data bytes.
+    pub n: u8,
+    /// The data of a write.
+    pub data: &'a [u8],
+    /// Pairs of event and argument.
+    pub script: &'a [u8],
+}
+
+/// What `perlovasta::sys::job` gives, by the model.
+pub fn job(input: &Input, destination: &mut [u8], out: &mut [u8], report: &mut [u8]) -> bool {
+    let Some(report) = report.first_chunk_mut() else {
+        return false;
+    };
+    *report = match kind(input.kind) {
+        Some(kind) => written(run(input, kind, destination, out)),
+        // Of another kind: 21, and nothing is done.
+        None => [21, 0, 0, 0, 0, 0, 0, 0, 0, 0, 0],
+    };
+    true
+}
+
+fn kind(number: u8) -> Option<Kind> {
+    match number {
+        0 => Some(Kind::Write),
+        1 => Some(Kind::Read),
+        _ => None,
+    }
+}
+
+fn run(input: &Input, kind: Kind, destination: &mut [u8], out: &mut [u8]) -> Report {
+    let job = Job {
+        kind,
+        address: input.address,
+        n: input.n,
+        data: input.data,
+    };
+    run_job(&mut enabled(), &job, destination, out, input.script)
+}
+
+/// A fresh controller enabled by 40h, as a job's.
+pub fn enabled() -> Controller {
+    let mut controller = Controller::fresh();
+    let written = controller.write(CONTROL, 0x40);
+    assert!(written.is_ok(), "a fresh controller can be enabled");
+    controller
+}
+
+/// The report's eleven bytes.
+fn written(report: Report) -> [u8; REPORT_LEN] {
+    let mut bytes = [0; REPORT_LEN];
+    bytes[0] = report.answer.number();
+    bytes[1] = report.answer.beside();
+    bytes[2] = report.count;
+    bytes[3..].copy_from_slice(&(report.events as u64).to_le_bytes());
+    bytes
+}
+
+/// What `perlovasta::sys::trace` gives, by the model.
+pub fn trace(trace: &[u8], log: &mut [u8]) -> bool {
+    let (groups, rest) = trace.as_chunks::<GROUP_LEN>();
+    let (entries, _) = log.as_chunks_mut::<ENTRY_LEN>();
+    let whole = rest.is_empty() && groups.iter().all(|group| group[0] <= 2);
+    if !whole || entries.len() < groups.len() {
+        return false;
+    }
+    let mut controller = Controller::fresh();
+    for (&group, place) in groups.iter().zip(entries) {
+        let answer = step(&mut controller, group);
+        *place = entry(answer, &controller);
+    }
+    true
+}
+
+/// Gives the controller one group of a trace.
+#[inline]
+pub fn step(controller: &mut Controller, [kind, place, value]: Group) -> Result<u8, Refusal> {
+    match kind {
+        READ => controller.read(place),
+        WRITE => controller.write(place, value),
+        _ => controller.event(place, value),
+    }
+}
+
+/// The entry of a log after a group with this answer.
+#[inline]
+fn entry(answer: Result<u8, Refusal>, controller: &Controller) -> [u8; ENTRY_LEN] {
+    let (refusal, value) = match answer {
+        Ok(value) => (0, value),
+        Err(refusal) => (refusal.number(), 0),
+    };
+    let armed = u8::from(controller.armed()) << 7;
+    [
+        refusal,
+        value,
+        controller.status(),
+        controller.control(),
+        controller.hand(),
+        controller.moved(),
+        controller.pointer() + armed,
+        turn_number(controller.turn()),
+    ]
+}
+
+/// The turn's number in a log.
+#[inline]
+pub const fn turn_number(turn: Turn) -> u8 {
+    match turn {
+        Turn::Off => 0,
+        Turn::Host { edge, .. } => match edge {
+            Edge::Stop => 1,
+            Edge::Start => 17,
+        },
+        Turn::Free => 2,
+        Turn::Busy => 3,
+        Turn::Listen => 4,
+        Turn::Address => 5,
+        Turn::Send => 6,
+        Turn::Receive => 7,
+        Turn::SlaveReceive(Called::Own) => 8,
+        Turn::SlaveReceive(Called::General) => 24,
+        Turn::SlaveSend => 9,
+        Turn::Stopping => 10,
+        Turn::Restarting => 11,
+    }
+}

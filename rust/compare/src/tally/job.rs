@@ -1,0 +1,38 @@
+//! What a job and its report count for.
+
+use super::Tally;
+use crate::job_case::{Flaw, JobCase};
+
+impl Tally {
+    /// Counts a job after it was run.
+    pub fn count_job(&mut self, case: &JobCase, given: bool) {
+        self.jobs += 1;
+        self.count_flaw(case);
+        if !given {
+            return;
+        }
+        let report = &case.report;
+        let pairs = report[3..11].try_into().expect("eight bytes");
+        let pairs = u64::from_le_bytes(pairs);
+        self.pairs += pairs;
+        self.long[0] += u64::from(pairs > 0xFF);
+        self.long[1] += u64::from(pairs > 0xFFFF);
+        self.answer[usize::from(report[0])] += 1;
+        match report[0] {
+            0 => self.done[usize::from(case.kind)][usize::from(case.n)] += 1,
+            28 => self.beside[usize::from(report[1])] += 1,
+            _ => {}
+        }
+    }
+
+    /// Counts what is wrong with it, if it is one thing: then the answer is for that.
+    fn count_flaw(&mut self, case: &JobCase) {
+        let [flaw] = case.flaws()[..] else {
+            return;
+        };
+        self.flaw[flaw as usize] += 1;
+        if flaw == Flaw::Count {
+            self.count[usize::from(case.n)] += 1;
+        }
+    }
+}
