@@ -1,16 +1,15 @@
 -- One group of a trace, or the lack of one: what it makes of the definitions. Assumes nothing.
 use mathlib.Core.Bool.{Bool, true, false}
 use mathlib.Core.List.{List, [], _∷_, _++_}
-use mathlib.Core.Path.{_≡_, refl, sym, ap, _∙_}
+use mathlib.Core.Path.{_≡_, refl, ap, _∙_}
 use Prim.Native.Nat.{ℕ, _+_, _-_, _*_, _/_, _<_, _≤_}
 use native.Mathlib.Nat.{le-of-suc-le-suc, not-suc-le-zero}
 use native.Mathlib.Omega.{arith}
 use borrow.Author.Tests.{lt-ltb, le-ltb, ltb-true, ltb-false}
 use lib.Dec.{ltb}
 use lib.ListN.{length, drop, getD, length-drop, drop-of-length-le}
-use Rattle.controller.specs.Reply.{Outcome, outcomeOf}
+use Rattle.controller.specs.Reply.{Outcome}
 use Rattle.controller.specs.declared.record.Controller.{Controller}
-use Rattle.controller.specs.declared.reply.Reply.{Reply}
 use Rattle.driver.proofs.Script.{drop-two}
 use Rattle.driver.proofs.Steps.{drop-one}
 use Rattle.notation.specs.Choice.{_or_}
@@ -68,9 +67,8 @@ module _ (trace : List ℕ) (i : ℕ) where
     unfolding badTrace
     bad-group = ap badTrace three
 
-    -- a group that was answered so
-    pub log-group : (c : Controller) (r : Reply) → outcomeOf r ≡ groupOf c (getD trace i 0) (getD trace (i + 1) 0) (getD trace (i + 2) 0) →
-        logOf c (drop i trace) ≡ entryOf (outcomeOf r) ++ logOf (r .controller) (drop (i + 3) trace)
-    unfolding logOf outcomeOf
-    log-group c r e =
-        ap (λ (l : List ℕ). logOf c l) three ∙ ap (λ (o : Outcome). entryOf o ++ logOf (o .next) (drop (i + 3) trace)) (sym e)
+    pub log-group : (c : Controller) →
+        let o = groupOf c (getD trace i 0) (getD trace (i + 1) 0) (getD trace (i + 2) 0) in
+        logOf c (drop i trace) ≡ entryOf o ++ logOf (o .next) (drop (i + 3) trace)
+    unfolding logOf
+    log-group c = ap (λ (l : List ℕ). logOf c l) three

@@ -4,7 +4,7 @@ use mathlib.Core.Path.{_≡_, refl, sym, ap, _∙_}
 use Prim.Native.Nat.{ℕ, zero, suc, _+_, _<_}
 use native.Mathlib.Nat.{le-of-suc-le-suc, not-suc-le-zero}
 use native.Mathlib.Omega.{arith}
-use lib.ListN.{length, set, length-set}
+use lib.ListN.{length, set}
 use Rattle.notation.proofs.Overlay.{past-end}
 use Rattle.notation.specs.Overlay.{laid, laidAt}
 
@@ -28,9 +28,6 @@ after-eight at xs ys lent next n e =
     ap (λ (l : List ℕ). laidAt (at + 8) ys l) e
     ∙ ap (λ (k : ℕ). laidAt (at + k) ys (laidAt at xs lent)) (sym n)
     ∙ after at xs ys lent
-
-pub same-three : (a b d : ℕ) (lent : List ℕ) → length (set (set (set lent 0 a) 1 b) 2 d) ≡ length lent
-same-three a b d lent = length-set (set (set lent 0 a) 1 b) 2 d ∙ length-set (set lent 0 a) 1 b ∙ length-set lent 0 a
 
 -- three bytes put at the start, and others laid after them
 pub after-three : (a b d : ℕ) (xs lent : List ℕ) → 2 < length lent → laidAt 3 xs (set (set (set lent 0 a) 1 b) 2 d) ≡ laid (a ∷ b ∷ d ∷ xs) lent

@@ -3,6 +3,7 @@ use crate::job::run;
 use crate::report::put_report;
 use crate::trace::is_bad;
 use crate::trace::put_log;
+use controller::record::Controller;
 ghost use mathlib.Core.Path.{_≡_};
 ghost use lib.ListN.{length};
 ghost use Rattle.notation.specs.Overlay.{laid};
@@ -50,6 +51,6 @@ pub extern "C" fn perlovasta_trace(trace: &[u8], log: &mut [u8]) -> bool
     if short {
         return false;
     }
-    put_log(trace, log);
+    put_log(Controller::fresh(), trace, log);
     true
 }

@@ -4,10 +4,11 @@ use crate::memory::put_eight;
 use controller::record::Controller;
 use numbers::groups::access;
 ghost use mathlib.Core.Path.{_≡_};
-ghost use Prim.Native.Nat.{_*_, _/_, _≤_};
+ghost use Prim.Native.Nat.{_+_, _*_, _/_, _≤_};
 ghost use lib.ListN.{length};
-ghost use Rattle.controller.specs.Reset.{fresh};
-ghost use Rattle.notation.specs.Overlay.{laid};
+ghost use Rattle.notation.specs.Overlay.{laid, laidAt};
+ghost use Rattle.numbers.specs.Groups.{groupOf};
+ghost use Rattle.perlovasta.specs.Log.{entryOf};
 ghost use Rattle.perlovasta.specs.Trace.{badTrace, logOf};
 
 // The trace ends in a group, or a group is of another kind.
@@ -28,18 +29,28 @@ pub(crate) fn is_bad(trace: &[u8]) -> bool
     false
 }
 
-// Works the groups and puts the log.
-pub(crate) fn put_log(trace: &[u8], log: &mut [u8])
-    requires { ⌜ 8 * (length (now trace) / 3) ≤ length (now log) ⌝ }
-    ensures { λ _. ⌜ now (log .exit) ≡ laid (logOf fresh (now (trace .entry))) (now (log .entry)) ⌝ }
+// Works one group and puts its bytes of the log. Gives the record after it.
+fn put_group(c: Controller, kind: u8, place: u8, value: u8, log: &mut [u8], at: usize) -> Controller
+    requires { ⌜ at + 8 ≤ length (now log) ⌝ }
+    ensures next { λ r. ⌜ r ≡ (groupOf c kind place value) .next ⌝ }
+    ensures logged { λ _. ⌜ now (log .exit) ≡ laidAt at (entryOf (groupOf c kind place value)) (now (log .entry)) ⌝ }
 {
-    let mut c = Controller::fresh();
+    let reply = access(c, kind, place, value);
+    let next = reply.controller;
+    put_eight(log, at, log_entry(reply));
+    next
+}
+
+// Works the groups from this record on and puts the log.
+pub(crate) fn put_log(start: Controller, trace: &[u8], log: &mut [u8])
+    requires { ⌜ 8 * (length (now trace) / 3) ≤ length (now log) ⌝ }
+    ensures { λ _. ⌜ now (log .exit) ≡ laid (logOf start (now (trace .entry))) (now (log .entry)) ⌝ }
+{
+    let mut c = start;
     let mut i = 0;
     let mut at = 0;
     while 3 <= trace.len() - i {
-        let reply = access(c, trace[i], trace[i + 1], trace[i + 2]);
-        put_eight(log, at, log_entry(reply));
-        c = reply.controller;
+        c = put_group(c, trace[i], trace[i + 1], trace[i + 2], log, at);
         i += 3;
         at += 8;
     }

@@ -10,6 +10,7 @@ use lib.ListN.{length}
 use denote.Ref.{now}
 use Rattle.notation.proofs.Cases.{if-true, if-false, or-left, or-right, or-false}
 use Rattle.controller.specs.Reset.{fresh}
+use Rattle.controller.specs.declared.record.Controller.{Controller}
 use Rattle.notation.specs.Choice.{_or_}
 use Rattle.notation.specs.Overlay.{laid}
 use Rattle.perlovasta.specs.Trace.{TraceCall, badTrace, logOf, traceCall}
@@ -37,20 +38,24 @@ returns-2 c =
 
 put-log-requires : tie.Need-put-log-requires
 put-log-requires c κs =
-    let s = c .before .before .before .before .before .before in
+    let s = c .before .before .before .before .before .before .before in
     let room = length (now (s .args .log)) in
     let groups = length (now (s .args .trace)) / 3 in
-    ltb-false room (8 * groups) (same-room room groups ∙ c .before .if2 .left)
+    ltb-false room (8 * groups) (same-room room groups ∙ c .before .before .if2 .left)
 
 returns-3 : tie.Need-returns-3
 unfolding traceCall
 returns-3 c =
-    let s = c .before .before .before .before .before .before .before .before .before in
+    let s = c .before .before .before .before .before .before .before .before .before .before in
     let trace = now (s .args .trace) in
     let log = now (s .args .log) in
     let e : traceCall trace (length log) ≡ record { done = true; logged = logOf fresh trace } =
-    if-false _ _ _ (or-false _ _ (sym (c .before .before .before .before .before .before .is-bad .ensures) ∙ c .before .before .before .before .before .if1 .left) (same-room (length log) (length trace / 3) ∙ c .before .before .before .before .if2 .left)) in
-    (sym (ap (λ (r : TraceCall). r .done) e), c .before .before .put-log .ensures ∙ sym (ap (λ (r : TraceCall). laid (r .logged) log) e))
+    if-false _ _ _ (or-false _ _ (sym (c .before .before .before .before .before .before .before .is-bad .ensures) ∙ c .before .before .before .before .before .before .if1 .left) (same-room (length log) (length trace / 3) ∙ c .before .before .before .before .before .if2 .left)) in (
+      sym (ap (λ (r : TraceCall). r .done) e),
+      c .before .before .put-log .ensures
+          ∙ ap (λ (d : Controller). laid (logOf d trace) log) (c .before .before .before .before .fresh .ensures)
+          ∙ sym (ap (λ (r : TraceCall). laid (r .logged) log) e),
+    )
 
 pub perlovasta-trace-spec : {M : Type 1} → statement M
 perlovasta-trace-spec =
@@ -59,6 +64,7 @@ perlovasta-trace-spec =
     (λ c κs. search needs)
     returns
     returns-2
+    (λ c κs. search needs)
     put-log-requires
     (λ c. search needs)
     returns-3)

@@ -32,7 +32,7 @@ loop-again c =
     let next = drop-one bytes (l .i) (omega arith) in
     let place : at + (l .i + 1) ≡ at + l .i + 1 = omega arith in (
       omega arith,
-      length-set (l .memory) (at + l .i) x ∙ l .inv .1,
+      length-set (l .memory) (at + l .i) _ ∙ l .inv .1,
       ap (λ (k : ℕ). laidAt k (drop (l .i + 1) bytes) (set (l .memory) (at + l .i) x)) place
           ∙ one-more (at + l .i) x (drop (l .i + 1) bytes) (l .memory) (omega arith)
           ∙ sym (ap (λ (xs : List ℕ). laidAt (at + l .i) xs (l .memory)) next)

@@ -28,7 +28,7 @@ loop-again c =
     let x = l .left % 256 in
     let rest = lowFirst (8 - (l .i + 1)) (l .left / 256) in (
       omega arith,
-      length-set (l .bytes) (l .i) x ∙ l .inv .1,
+      length-set (l .bytes) (l .i) _ ∙ l .inv .1,
       one-more (l .i) x rest (l .bytes) (omega arith)
           ∙ sym (ap (λ (xs : List ℕ). laidAt (l .i) xs (l .bytes)) (low-one (l .i) (l .left) (c .loop-test .taken)))
           ∙ l .inv .2,

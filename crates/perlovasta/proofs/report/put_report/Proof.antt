@@ -10,7 +10,7 @@ use Rattle.answer.specs.Ending.{numberOf}
 use Rattle.driver.specs.Run.{resultOf}
 use Rattle.notation.specs.Overlay.{laid, laidAt}
 use Rattle.perlovasta.specs.Report.{lowFirst, reportOf}
-use Rattle.perlovasta.proofs.Places.{after-three, same-three}
+use Rattle.perlovasta.proofs.Places.{after-three}
 use Rattle.perlovasta.proofs.report.put_report.Statement.{statement}
 use Rattle.perlovasta.proofs.report.put_report.Tie as tie
 
@@ -21,7 +21,7 @@ slice-write-report-3 : tie.Need-slice-write-report-3
 slice-write-report-3 c = simp length-set (omega arith)
 
 same-length : tie.Need-same-length
-same-length c = omega (arith, c .before .before .put-eight .kept, same-three (c .before .before .before .before .before .before .number .result) (c .before .before .before .before .before .beside .result) (c .before .before .before .before .before .before .before .before .args .result .count) (now (c .before .before .before .before .before .before .before .before .args .report)))
+same-length c = simp length-set at (c .before .before .put-eight .kept .0)
 
 returns : tie.Need-returns
 unfolding reportOf resultOf
