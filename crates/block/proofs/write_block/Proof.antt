@@ -1,10 +1,9 @@
 -- `write_block` is `written`: the bytes that are left, written to the record so far, always give what all of them give.
-use mathlib.Core.Bool.{false}
 use mathlib.Core.Path.{_≡_, refl, sym, ap, _∙_}
 use Prim.Native.Nat.{_≤_, _-_, _+_, _<_}
 use native.Mathlib.Omega.{arith}
 use borrow.Author.Needs.{needs}
-use lib.ListN.{length, drop, getD, set}
+use lib.ListN.{length, drop, getD}
 use denote.Ref.{now}
 use Rattle.block.specs.Block.{reachOf, written}
 use Rattle.block.proofs.Access.{reach-most, reach-stays, write-inside}
@@ -33,7 +32,7 @@ loop-again c =
     let x = getD bytes (l .i) 0 in
     let below : l .next .hand < reachOf (l .next) = omega (arith, l .inv .1) in (
       omega arith,
-      reach-stays (l .next) (set (l .next .buffer) (l .next .hand) x) false below ∙ l .inv .1,
+      reach-stays (l .next) _ _ below ∙ l .inv .1,
       l .inv .2,
       ap (written (drop (l .i + 1) bytes)) (sym (write-inside (l .next) x below .0)) ∙ sym (write-one bytes (l .i) (l .next) (c .before .before .loop-test .taken)) ∙ l .inv .3,
     )
