@@ -1,6 +1,6 @@
--- What the proofs here cite: one round of each small loop, and what the driver's work leaves as it was. Assumes nothing.
+-- What the proofs here cite: lists, the blocks of I2CDAT, and what the driver's work leaves as it was. Assumes nothing.
 use mathlib.Core.Bool.{Bool, true, false}
-use mathlib.Core.List.{List, [], _∷_}
+use mathlib.Core.List.{List, [], _∷_, _++_}
 use mathlib.Core.Path.{_≡_, refl, sym, ap, _∙_}
 use Prim.Native.Nat.{ℕ, zero, suc, _+_, _-_, _≤_, _<_}
 use native.Mathlib.Nat.{le-of-suc-le-suc, not-suc-le-zero}
@@ -8,10 +8,11 @@ use native.Mathlib.Numerals.{add-one}
 use native.Mathlib.Omega.{arith}
 use borrow.Author.Tests.{ltb-false, eqb-true, not-false}
 use lib.Dec.{T, eqb}
-use lib.ListN.{length, take, drop, getD, set, drop-of-length-le}
+use lib.ListN.{length, take, drop, getD, length-set}
 use lib.Seq.{drop-cons, drop-nil, getD-take, length-take-le}
 use types.Run.{OneOf}
-use Rattle.controller.specs.Access.{readOf}
+use Rattle.block.specs.Block.{written, afterReads, valuesRead}
+use Rattle.controller.specs.Access.{readOf, writeOf}
 use Rattle.controller.specs.declared.record.Controller.{Controller}
 use Rattle.driver.specs.Request.{badLength, malformed}
 use Rattle.driver.specs.Run.{reaching}
@@ -20,7 +21,9 @@ use Rattle.driver.specs.declared.job.Job.{Job}
 use Rattle.driver.specs.declared.progress.Progress.{Progress}
 use Rattle.notation.proofs.Among.{has, every, same, keys-in}
 use Rattle.notation.proofs.Cases.{if-false, or-left-off, or-right-off}
+use Rattle.notation.proofs.Overlay.{at-start, none, one-more}
 use Rattle.notation.specs.Choice.{if_then_else_, among}
+use Rattle.notation.specs.Overlay.{laid, laidAt}
 
 -- the first of what is left, and the rest
 pub drop-one : (xs : List ℕ) (i : ℕ) → i < length xs → drop i xs ≡ getD xs i 0 ∷ drop (i + 1) xs
@@ -38,33 +41,43 @@ take-done (suc n) xs zero h = absurd (not-suc-le-zero h)
 take-done (suc n) [] (suc i) h = refl
 take-done (suc n) (x ∷ xs) (suc i) h = take-done n xs i (le-of-suc-le-suc h)
 
--- one byte of those that are left to write, and none
-pub load-one : (xs : List ℕ) (i : ℕ) (c : Controller) → i < length xs → load (drop i xs) c ≡ load (drop (i + 1) xs) (put c 1 (getD xs i 0))
-unfolding load
-load-one xs i c h = ap (λ (l : List ℕ). load l c) (drop-one xs i h)
+-- the data loaded are a block written
+pub load-block : (xs : List ℕ) (c : Controller) → load xs c ≡ written xs c
+unfolding load written put
+load-block [] c = refl
+load-block (x ∷ xs) c = load-block xs ((writeOf c 1 x) .next)
 
-pub load-done : (xs : List ℕ) (i : ℕ) (c : Controller) → length xs ≤ i → load (drop i xs) c ≡ c
-unfolding load
-load-done xs i c h = ap (λ (l : List ℕ). load l c) (drop-of-length-le xs h)
+-- this record, and these bytes read back
+abbrev pub fetching : Progress → Controller → List ℕ → Progress
+fetching p c xs = record {
+  controller = c;
+  over = p .over;
+  ending = p .ending;
+  count = p .count;
+  events = p .events;
+  fetched = xs;
+}
 
--- the record and byte that the read gave, kept
-pub fetched : (i : ℕ) (p : Progress) (next : Controller) (x : ℕ) → next ≡ (readOf (p .controller) 1) .next → x ≡ reads (p .controller) 1 →
-    record { controller = next; over = p .over; ending = p .ending; count = p .count; events = p .events; fetched = set (p .fetched) i x } ≡ fetchOne i p
-unfolding fetchOne
-fetched i p next x e f = cc
+-- the bytes fetched are a block read, laid over those held
+fetch-laid : (n i : ℕ) (p : Progress) → i + n ≤ length (p .fetched) → fetch n i p ≡ fetching p (afterReads n (p .controller)) (laidAt i (valuesRead n (p .controller)) (p .fetched))
+unfolding fetch fetchOne reads afterReads valuesRead
+fetch-laid zero i p h = ap (fetching p (p .controller)) (sym (none i (p .fetched)))
+fetch-laid (suc more) i p h =
+    let value = (readOf (p .controller) 1) .value in
+    let next = (readOf (p .controller) 1) .next in
+    let l = length-set (p .fetched) i value in
+    fetch-laid more (i + 1) (fetchOne i p) (omega arith) ∙ ap (fetching p (afterReads more next)) (one-more i value (valuesRead more next) (p .fetched) (omega arith))
 
--- one byte of those that are left to fetch, and none
-pub fetch-one : (n i : ℕ) (p : Progress) → i < n → fetch (n - i) i p ≡ fetch (n - (i + 1)) (i + 1) (fetchOne i p)
-unfolding fetch
-fetch-one n i p h =
-    let e : n - i ≡ suc (n - (i + 1)) = omega arith in
-    ap (λ (m : ℕ). fetch m i p) e
+laid-block : (n : ℕ) (c : Controller) (lent : List ℕ) → n ≤ length lent → laid (valuesRead n c) lent ≡ valuesRead n c ++ drop n lent
+unfolding laid valuesRead
+laid-block zero c lent h = refl
+laid-block (suc n) c [] h = absurd (not-suc-le-zero h)
+laid-block (suc n) c (y ∷ lent) h = ap (λ (l : List ℕ). (readOf c 1) .value ∷ l) (laid-block n ((readOf c 1) .next) lent (le-of-suc-le-suc h))
 
-pub fetch-done : (n i : ℕ) (p : Progress) → n ≤ i → fetch (n - i) i p ≡ p
-unfolding fetch
-fetch-done n i p h =
-    let e : n - i ≡ 0 = omega arith in
-    ap (λ (m : ℕ). fetch m i p) e
+pub fetch-block : (n : ℕ) (p : Progress) → n ≤ length (p .fetched) → fetch n 0 p ≡ fetching p (afterReads n (p .controller)) (valuesRead n (p .controller) ++ drop n (p .fetched))
+fetch-block n p h =
+    let c = p .controller in
+    fetch-laid n 0 p (omega arith) ∙ ap (fetching p (afterReads n c)) (at-start (valuesRead n c) (p .fetched) ∙ laid-block n c (p .fetched) h)
 
 -- an arm of a match on x, none of whose numbers is j
 pub misses : (ks : List ℕ) (x : ℕ) → OneOf ks x → (j : ℕ) → T (every (λ k. same (has (j ∷ []) k) false) ks) → eqb x j ≡ false

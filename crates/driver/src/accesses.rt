@@ -1,10 +1,11 @@
 // What the driver does to the controller: register accesses, and nothing else.
 use crate::job::Job;
 use address::number::Direction;
+use block::write_block;
 use controller::record::Controller;
 ghost use mathlib.Core.Path.{_≡_};
 ghost use Prim.Native.Nat.{_≤_};
-ghost use Rattle.driver.specs.Service.{put as writes, reads as value, countOf, begins, addresses, load as loads, sends, movedCount, pointsBack};
+ghost use Rattle.driver.specs.Service.{put as writes, reads as value, countOf, begins, addresses, sends, movedCount, pointsBack};
 
 // A register written: the record after it.
 pub(crate) fn put(c: Controller, register: u8, value: u8) -> Controller
@@ -56,28 +57,15 @@ pub(crate) fn send_address(job: Job, c: Controller) -> Controller
     put(loaded, 3, 0x40)
 }
 
-// Bytes written to I2CDAT, one after the other.
-fn load(bytes: &[u8], start: Controller) -> Controller
-    ensures { λ r. ⌜ r ≡ loads (now (bytes .entry)) start ⌝ }
-{
-    let mut c = start;
-    let mut i = 0;
-    while i < bytes.len() {
-        c = put(c, 1, bytes[i]);
-        i += 1;
-    }
-    c
-}
-
 // 18h: the data.
 pub(crate) fn send_data(job: Job, payload: &[u8], c: Controller) -> Controller
     ensures { λ r. ⌜ r ≡ sends job (now (payload .entry)) c ⌝ }
 {
     let n = job.n as usize;
     if n < payload.len() {
-        put(load(&payload[..n], c), 3, 0x41)
+        put(write_block(c, &payload[..n]), 3, 0x41)
     } else {
-        put(load(payload, c), 3, 0x41)
+        put(write_block(c, payload), 3, 0x41)
     }
 }
 

@@ -3,10 +3,11 @@ use crate::accesses::begin;
 use crate::job::Job;
 use crate::job::JobResult;
 use answer::ending::Ending;
+use block::read_block;
 use controller::record::Controller;
 ghost use mathlib.Core.Path.{_≡_};
 ghost use Prim.Native.Nat.{_≤_, _<_};
-ghost use Rattle.driver.specs.Service.{fetchOne, fetch, stopsRead};
+ghost use Rattle.driver.specs.Service.{fetch, stopsRead};
 ghost use Rattle.driver.specs.Run.{starts, reaching, closes, resultOf};
 
 // What the driver keeps from one pair of the script to the next.
@@ -51,32 +52,17 @@ impl Progress {
         self
     }
 
-    // One byte read from I2CDAT, kept at its place.
-    fn fetch_one(mut self, i: usize) -> Progress
-        requires { ⌜ i < 68 ⌝ }
-        ensures { λ r. ⌜ r ≡ fetchOne i self ⌝ }
-    {
-        let c = self.controller;
-        let reply = c.read(1);
-        let answer = reply.answer;
-        let next = reply.controller;
-        self.controller = next;
-        self.fetched[i] = answer.value();
-        self
-    }
-
     // So many bytes read from I2CDAT.
-    fn fetch(self, n: usize) -> Progress
+    fn fetch(mut self, n: usize) -> Progress
         requires { ⌜ n ≤ 68 ⌝ }
         ensures { λ r. ⌜ r ≡ fetch n 0 self ⌝ }
     {
-        let mut p = self;
-        let mut i = 0;
-        while i < n {
-            p = p.fetch_one(i);
-            i += 1;
-        }
-        p
+        let c = self.controller;
+        let mut fetched = self.fetched;
+        let next = read_block(c, &mut fetched[..n]);
+        self.controller = next;
+        self.fetched = fetched;
+        self
     }
 
     // 58h: the bytes read back, and a STOP asked for.

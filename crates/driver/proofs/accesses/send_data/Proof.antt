@@ -8,26 +8,27 @@ use lib.Seq.{length-take-le, take-all}
 use denote.Ref.{now}
 use Rattle.controller.specs.declared.record.Controller.{Controller}
 use Rattle.driver.specs.Service.{put, load, sends}
+use Rattle.driver.proofs.Steps.{load-block}
 use Rattle.driver.proofs.accesses.send_data.Statement.{statement}
 use Rattle.driver.proofs.accesses.send_data.Tie as tie
 
-slice-aggregate-load : tie.Need-slice-aggregate-load
-slice-aggregate-load c = sym (length-take-le (c .before .before .before .before .args .job .n) (c .before .before .before .before .args .payload .now) (omega arith))
+slice-aggregate-write-block : tie.Need-slice-aggregate-write-block
+slice-aggregate-write-block c = sym (length-take-le (c .before .before .before .before .args .job .n) (c .before .before .before .before .args .payload .now) (omega arith))
 
 returns : tie.Need-returns
 unfolding sends
-returns c = rw (c .put .ensures, c .before .load .ensures)
+returns c = c .put .ensures ∙ ap (λ (d : Controller). put d 3 0x41) (c .before .write-block .ensures ∙ sym (load-block _ _))
 
 returns-2 : tie.Need-returns-2
 unfolding sends
-returns-2 c = c .put2 .ensures ∙ ap (λ (d : Controller). put d 3 0x41) (c .before .load2 .ensures ∙ ap (λ (l : List ℕ). load l (c .before .before .before .before .before .args .c)) (sym (take-all (c .before .before .before .before .before .args .job .n) (now (c .before .before .before .before .before .args .payload)) (c .before .before .if1 .left))))
+returns-2 c = c .put2 .ensures ∙ ap (λ (d : Controller). put d 3 0x41) (c .before .write-block2 .ensures ∙ sym (load-block _ _) ∙ ap (λ (l : List ℕ). load l (c .before .before .before .before .before .args .c)) (sym (take-all (c .before .before .before .before .before .args .job .n) (now (c .before .before .before .before .before .args .payload)) (c .before .before .if1 .left))))
 
 pub send-data-spec : {M : Type 1} → statement M
 send-data-spec =
     tie.close
     (tie.spec
     (λ c. search needs)
-    slice-aggregate-load
+    slice-aggregate-write-block
     (λ c κs. search needs)
     (λ c κs. search needs)
     (λ c κs. search needs)

@@ -1,36 +1,37 @@
--- `fetch` is its definition: the bytes that are left, fetched with the progress so far, always give what all of them give.
-use mathlib.Core.Path.{_≡_, ap, sym, _∙_}
-use Prim.Native.Nat.{_≤_, _-_, ℕ, _+_}
-use native.Mathlib.Nat.{sub-zero}
+-- `fetch` is its definition: the first n of the bytes held are lent, and a block is read into them.
+use mathlib.Core.List.{List, _++_}
+use mathlib.Core.Path.{sym, ap, _∙_}
+use Prim.Native.Nat.{ℕ}
 use native.Mathlib.Omega.{arith}
 use borrow.Author.Needs.{needs}
-use Rattle.driver.specs.Service.{fetch}
-use Rattle.driver.specs.declared.progress.Progress.{Progress}
-use Rattle.driver.proofs.Steps.{fetch-one, fetch-done}
+use lib.ListN.{drop, length-map}
+use lib.Seq.{length-take-le}
+use Rattle.block.specs.Block.{afterReads, valuesRead}
+use Rattle.controller.specs.declared.record.Controller.{Controller}
+use Rattle.driver.proofs.Steps.{fetching, fetch-block}
 use Rattle.driver.proofs.progress.Progress.fetch.Statement.{statement}
 use Rattle.driver.proofs.progress.Progress.fetch.Tie as tie
 
-abbrev Inv-loop : tie.InvT-loop
-Inv-loop n p₀ i₀ p i = (i ≤ n) × (fetch (n - i) i p ≡ fetch n 0 p₀)
+array-borrow-prefix-fetched : tie.Need-array-borrow-prefix-fetched
+array-borrow-prefix-fetched c =
+    let here = c .before .before in
+    let places = sym (length-map (here .args .self .fetched) _) ∙ here .good .0 .1 .1 .1 .1 .1 .1 .1 .0 .1 .0 .1 in
+    omega (arith, places)
 
-abbrev μ-loop : tie.MeasureT-loop
-μ-loop n p₀ i₀ p i = n - i
+slice-aggregate-read-block : tie.Need-slice-aggregate-read-block
+slice-aggregate-read-block c = sym (length-take-le _ _ (array-borrow-prefix-fetched (c .before)))
 
-loop-holds : tie.Need-loop-holds Inv-loop μ-loop
-loop-holds c = (search needs, ap (λ (m : ℕ). fetch m 0 (c .args .self)) (sub-zero (c .args .n)))
-
-loop-again : tie.Need-loop-again Inv-loop μ-loop
-loop-again c =
-    let l = c .before .before .loop in
-    let n = c .before .before .before .args .n in (
-      omega arith,
-      ap (λ (q : Progress). fetch (n - (l .i + 1)) (l .i + 1) q) (c .fetch-one .ensures) ∙ sym (fetch-one n (l .i) (l .p) (c .before .loop-test .taken)) ∙ l .inv .1,
-    )
-
-returns : tie.Need-returns Inv-loop μ-loop
-returns c = sym (fetch-done (c .before .before .args .n) (c .before .loop .i) (c .before .loop .p) (c .loop-test .left)) ∙ c .before .loop .inv .1
+returns : tie.Need-returns
+returns c =
+    let here = c .before .before .before .before .before in
+    let n = here .args .n in
+    let p = here .args .self in
+    let room = array-borrow-prefix-fetched (c .before .before .before) in
+    let lent = length-take-le n (p .fetched) room in
+    let read = c .before .read-block .ensures in
+    ap (λ (d : Controller). fetching p d (c .before .read-block .last .1 .0 ++ drop n (p .fetched))) (read .0 ∙ ap (λ (k : ℕ). afterReads k (p .controller)) lent)
+    ∙ ap (λ (xs : List ℕ). fetching p (afterReads n (p .controller)) (xs ++ drop n (p .fetched))) (read .1 ∙ ap (λ (k : ℕ). valuesRead k (p .controller)) lent)
+    ∙ sym (fetch-block n p room)
 
 pub fetch-spec : {M : Type 1} → statement M
-fetch-spec =
-    tie.close
-    (tie.spec Inv-loop μ-loop loop-holds (λ c κs. search needs) (λ c. search needs) (λ c. search needs) loop-again returns)
+fetch-spec = tie.close (tie.spec array-borrow-prefix-fetched slice-aggregate-read-block (λ c κs. search needs) returns)

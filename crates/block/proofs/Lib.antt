@@ -1,0 +1,3 @@
+-- Laws that the proofs here and above cite.
+pub mod Access
+pub mod Rounds

@@ -1,0 +1,2 @@
+-- Document 01, Registers: I2CDAT, many bytes at once.
+pub mod Block
