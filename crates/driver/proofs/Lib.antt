@@ -1,3 +1,4 @@
 -- Laws that the proofs here cite.
+pub mod Midway
 pub mod Steps
 pub mod Script

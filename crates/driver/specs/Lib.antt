@@ -2,3 +2,4 @@
 pub mod Request
 pub mod Service
 pub mod Run
+pub mod Amid

@@ -1,4 +1,6 @@
 // The run over the script's pairs.
+use crate::amid::is_amid;
+use crate::amid::pass;
 use crate::job::Job;
 use crate::progress::Progress;
 use crate::service::asks;
@@ -16,7 +18,7 @@ ghost use Rattle.notation.specs.Overlay.{laid, laidAt};
 ghost use Rattle.notation.specs.Choice.{if_then_else_};
 
 // A byte sent is put at its place in the out record. Gives the next place.
-fn note(out: &mut [u8], at: usize, event: u8, value: u8) -> usize
+pub(crate) fn note(out: &mut [u8], at: usize, event: u8, value: u8) -> usize
     requires { ⌜ at ≤ length (now out) ⌝ }
     ensures room { λ r. ⌜ (r ≤ length (now (out .exit))) × (length (now (out .exit)) ≡ length (now (out .entry))) ⌝ }
     ensures noted { λ r. ⌜ ((later : List ℕ) → laidAt r later (now (out .exit)) ≡ laidAt at (if eqb event 6 then value ∷ later else later) (now (out .entry))) ⌝ }
@@ -31,8 +33,8 @@ fn note(out: &mut [u8], at: usize, event: u8, value: u8) -> usize
     at
 }
 
-// Takes pairs while the job lasts; what it breaks with is the end of the job. (Between two services the record and the number of pairs
-// are held beside the progress, so that a pair the driver only waits through moves the record alone.)
+// Takes pairs while the job lasts; what it breaks with is the end of the job. (The record and the number of pairs are
+// held beside the progress, and a pair amid a buffered move changes the record in place, so that long moves copy nothing.)
 pub(crate) fn work(
     start: Progress,
     job: Job,
@@ -50,12 +52,21 @@ pub(crate) fn work(
     let mut events = 0;
     let mut at = 0;
     let mut i = 0;
-    let end = loop {
+    loop {
         if script.len() - i < 2 {
             break p.reach(c, events).end(c, Ending::Unfinished);
         }
         let event = script[i];
-        let reply = c.event(event, script[i + 1]);
+        let argument = script[i + 1];
+        i += 2;
+        if is_amid(event, argument, c) {
+            let moved = c.moved;
+            at = pass(&mut c.buffer, moved, event, argument, out, at);
+            c.moved = moved + 1;
+            events += 1;
+            continue;
+        }
+        let reply = c.event(event, argument);
         let answer = reply.answer;
         match answer {
             Answer::Refused(why) => break p.reach(c, events).end(c, Ending::Refused(why)),
@@ -63,7 +74,6 @@ pub(crate) fn work(
                 at = note(out, at, event, value);
                 c = reply.controller;
                 events += 1;
-                i += 2;
                 if asks(event, c) {
                     p = serve(job, payload, event, p.reach(c, events));
                     c = p.controller;
@@ -73,6 +83,5 @@ pub(crate) fn work(
                 }
             }
         }
-    };
-    end
+    }
 }

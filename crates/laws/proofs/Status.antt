@@ -62,7 +62,7 @@ interrupt-bit c =
     simp weight (is-same _ _ (bit-three (k .aa) (k .ensio) (k .sta) (k .sto) (interrupts c) (k .mode)))
 
 -- what register 3 reads of a sound record
-control-reads : (c : Controller) → sound c ≡ true → (readOf c 3) .value ≡ readsAs (c .control) (interrupts c)
+pub control-reads : (c : Controller) → sound c ≡ true → (readOf c 3) .value ≡ readsAs (c .control) (interrupts c)
 unfolding readOf readSound indirectAt barsRead accepts if_then_else_ _and_
 control-reads c s = rw (s, and-no-right (among (kind (c .turn)) wireTurns) false refl)
 
@@ -79,7 +79,7 @@ given-not-idle x e = step (eqb x 0xF8) refl
     step false q = q
 
 -- what register 0 reads of a sound record
-status-reads : (c : Controller) → sound c ≡ true → (readOf c 0) .value ≡ statusOf (c .turn)
+pub status-reads : (c : Controller) → sound c ≡ true → (readOf c 0) .value ≡ statusOf (c .turn)
 unfolding readOf readSound indirectAt barsRead accepts if_then_else_ _and_
 status-reads c s = rw (s, and-no-right (among (kind (c .turn)) wireTurns) false refl)
 

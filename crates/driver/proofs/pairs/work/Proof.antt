@@ -1,15 +1,26 @@
 -- `work` is `run`: the run over what is left of the script, from the progress so far, always leads to what the whole run gives.
 use mathlib.Core.Bool.{false}
+use mathlib.Core.List.{List}
 use mathlib.Core.Path.{_≡_, refl, sym, ap, _∙_}
-use Prim.Native.Nat.{_≤_, _-_, _+_, _<_}
+use Prim.Native.Nat.{ℕ, _≤_, _-_, _+_, _<_}
 use native.Mathlib.Omega.{arith}
 use borrow.Author.Needs.{needs}
+use lib.Dec.{eqb}
 use lib.ListN.{length, drop, getD}
 use denote.Ref.{now}
-use Rattle.driver.specs.Run.{run, closes, taking, reaching}
+use Rattle.answer.specs.Number.{refusalOf, valueOf}
+use Rattle.answer.specs.declared.Answer.the-variants.{Accepted}
 use Rattle.answer.specs.declared.ending.Ending.the-variants.{Unfinished, Refused}
+use Rattle.controller.specs.Record.{withBuffer}
+use Rattle.controller.specs.Reply.{outcomeOf, accepts}
+use Rattle.controller.specs.Transfer.{counted}
+use Rattle.controller.specs.declared.reply.Reply.{Reply}
+use Rattle.driver.specs.Amid.{amidNext, amidValue}
+use Rattle.driver.specs.Run.{run, closes, taking, reaching}
 use Rattle.driver.specs.Service.{serve, ends}
 use Rattle.driver.specs.declared.progress.Progress.{Progress}
+use Rattle.notation.specs.Overlay.{laidAt}
+use Rattle.driver.proofs.Midway.{passes-amid, noted}
 use Rattle.driver.proofs.Script.{Leads, begun, ended, passes, runs-out, refused, over, on}
 use Rattle.driver.proofs.Steps.{serve-events, waits, reached}
 use Rattle.driver.proofs.pairs.work.Statement.{statement}
@@ -31,23 +42,61 @@ loop-holds c =
     let script = now (s .args .script) in
     (search needs, search needs, search needs, refl, s .pre .2, begun (ap (λ (q : Progress). run job payload q script) (reached (s .args .start) 0 (s .pre .1))))
 
-add-events : tie.Need-add-events Inv-loop μ-loop
-add-events c = omega (arith, c .before .before .before .before .before .before .before .before .before .before .before .if1 .left, c .before .before .before .before .before .before .before .before .before .before .before .before .loop .inv, c .before .before .before .before .before .before .before .before .before .before .before .before .before .before .before .before .before .good)
-
 add-i : tie.Need-add-i Inv-loop μ-loop
-add-i c = omega (arith, c .before .before .before .before .before .before .before .before .before .before .before .if1 .left, c .before .before .before .before .before .before .before .before .before .before .before .before .loop .inv, c .before .before .before .before .before .before .before .before .before .before .before .before .before .before .before .before .before .good)
+add-i c = omega (arith, c .before .before .if1 .left, c .before .before .before .loop .inv, c .before .before .before .before .before .before .before .before .good)
 
-serve-requires : tie.Need-serve-requires Inv-loop μ-loop
-serve-requires c κs = c .before .before .before .before .before .before .before .before .before .before .before .before .before .before .before .before .before .before .before .before .pre .0
+pass-requires : tie.Need-pass-requires Inv-loop μ-loop
+pass-requires c κs = ((passes-amid _ _ _ (sym (c .before .before .before .is-amid .ensures) ∙ c .before .before .if2 .taken)) .below, c .before .before .before .before .before .before .before .loop .inv .2)
+
+add-c : tie.Need-add-c Inv-loop μ-loop
+add-c c = omega (arith, (passes-amid _ _ _ (sym (c .before .before .before .before .before .before .is-amid .ensures) ∙ c .before .before .before .before .before .if2 .taken)) .below)
+
+add-events : tie.Need-add-events Inv-loop μ-loop
+add-events c = omega (arith, c .before .before .before .before .before .before .before .before .before .if1 .left, c .before .before .before .before .before .before .before .before .before .before .loop .inv, c .before .before .before .before .before .before .before .before .before .before .before .before .before .before .before .good)
 
 loop-less : tie.Need-loop-less Inv-loop μ-loop
-loop-less c = omega (arith, c .before .before .before .before .before .before .before .before .before .before .before .before .before .before .before .before .before .if1 .left)
+loop-less c = omega (arith, c .before .before .before .before .before .before .before .before .before .if1 .left)
 
 loop-again : tie.Need-loop-again Inv-loop μ-loop
-unfolding taking reaching
+unfolding taking reaching amidNext amidValue outcomeOf accepts refusalOf valueOf
 loop-again c =
-    let l = c .before .before .before .before .before .before .before .before .before .before .before .before .before .before .before .before .before .before .loop in
-    let s = c .before .before .before .before .before .before .before .before .before .before .before .before .before .before .before .before .before .before .before .before .before .before .before in
+    let l = c .before .before .before .before .before .before .before .before .before .before .loop in
+    let s = c .before .before .before .before .before .before .before .before .before .before .before .before .before .before .before in
+    let job = s .args .job in
+    let payload = now (s .args .payload) in
+    let script = now (s .args .script) in
+    let p = reaching (l .p) (l .c) (l .events) in
+    let number = getD script (l .i) 0 in
+    let argument = getD script (l .i + 1) 0 in
+    let pass = c .before .before .pass in
+    let more : l .i + 1 < length script = omega (arith, c .before .before .before .before .before .before .before .before .before .if1 .left) in
+    let m = passes-amid number argument (l .c) (sym (c .before .before .before .before .before .before .is-amid .ensures) ∙ c .before .before .before .before .before .if2 .taken) in
+    let reply : Reply = record { controller = amidNext number argument (l .c); answer = Accepted (amidValue number (l .c)) } in
+    let taken = taking p (amidNext number argument (l .c)) in
+    let stored = ap (λ (buffer : List ℕ). reaching (l .p) (counted (withBuffer (l .c) buffer)) (l .events + 1)) (pass .ensures .0) in
+    let pair = on job payload p script (l .i) more reply (sym (m .given)) _ refl taken (sym (waits job payload number taken (m .waiting))) (l .inv .4) stored in (
+      omega (arith, more),
+      omega (arith, l .inv .1),
+      pass .ensures .1 .0 .0,
+      pass .ensures .1 .0 .1 ∙ l .inv .3,
+      l .inv .4,
+      passes number _ pair (λ later. pass .ensures .1 .1 later ∙ ap (λ (xs : List ℕ). laidAt (l .at) xs (l .out)) (noted (eqb number 6) _ later)) (l .inv .5),
+    )
+
+add-events-2 : tie.Need-add-events-2 Inv-loop μ-loop
+add-events-2 c = omega (arith, c .before .before .before .before .before .before .before .before .before .before .before .before .before .if1 .left, c .before .before .before .before .before .before .before .before .before .before .before .before .before .before .loop .inv, c .before .before .before .before .before .before .before .before .before .before .before .before .before .before .before .before .before .before .before .good)
+
+serve-requires : tie.Need-serve-requires Inv-loop μ-loop
+serve-requires c κs = c .before .before .before .before .before .before .before .before .before .before .before .before .before .before .before .before .before .before .before .before .before .before .pre .0
+
+loop-less-2 : tie.Need-loop-less-2 Inv-loop μ-loop
+loop-less-2 c = omega (arith, c .before .before .before .before .before .before .before .before .before .before .before .before .before .before .before .before .before .before .before .if1 .left)
+
+loop-again-2 : tie.Need-loop-again-2 Inv-loop μ-loop
+unfolding taking reaching
+loop-again-2 c =
+    let l = c .before .before .before .before .before .before .before .before .before .before .before .before .before .before .before .before .before .before .before .before .loop in
+    let s = c .before .before .before .before .before .before .before .before .before .before .before .before .before .before .before .before .before .before .before .before .before .before .before .before .before in
     let job = s .args .job in
     let payload = now (s .args .payload) in
     let script = now (s .args .script) in
@@ -55,29 +104,29 @@ loop-again c =
     let number = getD script (l .i) 0 in
     let event = c .before .before .before .before .before .before .before .before .before .before .before .before .before .before .event in
     let note = c .before .before .before .before .before .before .before .before .before .note in
-    let more : l .i + 1 < length script = omega (arith, c .before .before .before .before .before .before .before .before .before .before .before .before .before .before .before .before .before .if1 .left) in
+    let more : l .i + 1 < length script = omega (arith, c .before .before .before .before .before .before .before .before .before .before .before .before .before .before .before .before .before .before .before .if1 .left) in
     let accepted = c .before .before .before .before .before .before .before .before .before .before .before .before .answer2 .given .1 in
     let taken = taking p (event .result .controller) in
     let q = c .before .before .serve .result in
     let served = c .before .before .serve .ensures ∙ ap (λ (t : Progress). serve job payload number t) (c .before .before .before .reach3 .ensures) in
     let events = ap (λ (t : Progress). t .events) served ∙ serve-events job payload number taken in
-    let pair = on job payload p script (l .i) more (event .result) (event .ensures) _ accepted q served (c .if3 .left) (reached q (l .events + 1) events) in (
+    let pair = on job payload p script (l .i) more (event .result) (event .ensures) _ accepted q served (c .if4 .left) (reached q (l .events + 1) events) in (
       omega (arith, more),
       omega (arith, l .inv .1),
       note .ensures .0 .0,
       note .ensures .0 .1 ∙ l .inv .3,
-      c .if3 .left,
+      c .if4 .left,
       passes number _ pair (note .ensures .1) (l .inv .5),
     )
 
-loop-less-2 : tie.Need-loop-less-2 Inv-loop μ-loop
-loop-less-2 c = omega (arith, c .before .before .before .before .before .before .before .before .before .before .before .before .before .if1 .left)
+loop-less-3 : tie.Need-loop-less-3 Inv-loop μ-loop
+loop-less-3 c = omega (arith, c .before .before .before .before .before .before .before .before .before .before .before .before .before .before .before .if1 .left)
 
-loop-again-2 : tie.Need-loop-again-2 Inv-loop μ-loop
+loop-again-3 : tie.Need-loop-again-3 Inv-loop μ-loop
 unfolding taking reaching
-loop-again-2 c =
-    let l = c .before .before .before .before .before .before .before .before .before .before .before .before .before .before .loop in
-    let s = c .before .before .before .before .before .before .before .before .before .before .before .before .before .before .before .before .before .before .before in
+loop-again-3 c =
+    let l = c .before .before .before .before .before .before .before .before .before .before .before .before .before .before .before .before .loop in
+    let s = c .before .before .before .before .before .before .before .before .before .before .before .before .before .before .before .before .before .before .before .before .before in
     let job = s .args .job in
     let payload = now (s .args .payload) in
     let script = now (s .args .script) in
@@ -85,10 +134,10 @@ loop-again-2 c =
     let number = getD script (l .i) 0 in
     let event = c .before .before .before .before .before .before .before .before .before .before .event in
     let note = c .before .before .before .before .before .note in
-    let more : l .i + 1 < length script = omega (arith, c .before .before .before .before .before .before .before .before .before .before .before .before .before .if1 .left) in
+    let more : l .i + 1 < length script = omega (arith, c .before .before .before .before .before .before .before .before .before .before .before .before .before .before .before .if1 .left) in
     let accepted = c .before .before .before .before .before .before .before .before .answer2 .given .1 in
     let taken = taking p (event .result .controller) in
-    let idle = sym (c .before .asks .ensures) ∙ c .if2 .left in
+    let idle = sym (c .before .asks .ensures) ∙ c .if3 .left in
     let pair = on job payload p script (l .i) more (event .result) (event .ensures) _ accepted taken (sym (waits job payload number taken idle)) (l .inv .4) refl in (
       omega (arith, more),
       omega (arith, l .inv .1),
@@ -97,9 +146,6 @@ loop-again-2 c =
       l .inv .4,
       passes number _ pair (note .ensures .1) (l .inv .5),
     )
-
-same-length : tie.Need-same-length Inv-loop μ-loop
-same-length c = c .before .before .before .loop .inv .3
 
 returns : tie.Need-returns Inv-loop μ-loop
 unfolding reaching
@@ -110,37 +156,35 @@ returns c =
     let payload = now (s .args .payload) in
     let script = now (s .args .script) in
     let p = reaching (l .p) (l .c) (l .events) in
-    let number = getD script (l .i) 0 in
     let stopped = c .end .ensures ∙ ap (λ (t : Progress). ends t (l .c) Unfinished) (c .before .reach .ensures) in
     ended (c .end .result) (runs-out job payload p script (l .i) (c .before .before .if1 .taken) ∙ ap closes (sym stopped)) (l .inv .5)
 
 same-length-2 : tie.Need-same-length-2 Inv-loop μ-loop
-same-length-2 c = c .before .before .before .before .before .before .before .before .before .loop .inv .3
+same-length-2 c = c .before .before .before .before .before .before .before .before .before .before .before .loop .inv .3
 
 returns-2 : tie.Need-returns-2 Inv-loop μ-loop
 unfolding reaching
 returns-2 c =
-    let l = c .before .before .before .before .before .before .before .before .before .loop in
-    let s = c .before .before .before .before .before .before .before .before .before .before .before .before .before .before in
+    let l = c .before .before .before .before .before .before .before .before .before .before .before .loop in
+    let s = c .before .before .before .before .before .before .before .before .before .before .before .before .before .before .before .before in
     let job = s .args .job in
     let payload = now (s .args .payload) in
     let script = now (s .args .script) in
     let p = reaching (l .p) (l .c) (l .events) in
-    let number = getD script (l .i) 0 in
     let event = c .before .before .before .before .before .event in
-    let more : l .i + 1 < length script = omega (arith, c .before .before .before .before .before .before .before .before .if1 .left) in
+    let more : l .i + 1 < length script = omega (arith, c .before .before .before .before .before .before .before .before .before .before .if1 .left) in
     let refusal = refused job payload p script (l .i) more (event .result) (event .ensures) _ (c .before .before .before .answer .given .1) in
     let stopped = c .end2 .ensures ∙ ap (λ (t : Progress). ends t (l .c) (Refused (c .before .before .before .answer .given .0 .0))) (c .before .reach2 .ensures) in
     ended (c .end2 .result) (refusal ∙ ap closes (sym stopped)) (l .inv .5)
 
 same-length-3 : tie.Need-same-length-3 Inv-loop μ-loop
-same-length-3 c = c .before .before .before .before .before .before .before .before .before .note .ensures .0 .1 ∙ c .before .before .before .before .before .before .before .before .before .before .before .before .before .before .before .before .before .before .loop .inv .3
+same-length-3 c = c .before .before .before .before .before .before .before .before .before .note .ensures .0 .1 ∙ c .before .before .before .before .before .before .before .before .before .before .before .before .before .before .before .before .before .before .before .before .loop .inv .3
 
 returns-3 : tie.Need-returns-3 Inv-loop μ-loop
 unfolding taking reaching
 returns-3 c =
-    let l = c .before .before .before .before .before .before .before .before .before .before .before .before .before .before .before .before .before .before .loop in
-    let s = c .before .before .before .before .before .before .before .before .before .before .before .before .before .before .before .before .before .before .before .before .before .before .before in
+    let l = c .before .before .before .before .before .before .before .before .before .before .before .before .before .before .before .before .before .before .before .before .loop in
+    let s = c .before .before .before .before .before .before .before .before .before .before .before .before .before .before .before .before .before .before .before .before .before .before .before .before .before in
     let job = s .args .job in
     let payload = now (s .args .payload) in
     let script = now (s .args .script) in
@@ -148,12 +192,11 @@ returns-3 c =
     let number = getD script (l .i) 0 in
     let event = c .before .before .before .before .before .before .before .before .before .before .before .before .before .before .event in
     let note = c .before .before .before .before .before .before .before .before .before .note in
-    let more : l .i + 1 < length script = omega (arith, c .before .before .before .before .before .before .before .before .before .before .before .before .before .before .before .before .before .if1 .left) in
+    let more : l .i + 1 < length script = omega (arith, c .before .before .before .before .before .before .before .before .before .before .before .before .before .before .before .before .before .before .before .if1 .left) in
     let accepted = c .before .before .before .before .before .before .before .before .before .before .before .before .answer2 .given .1 in
-    let taken = taking p (event .result .controller) in
     let q = c .before .before .serve .result in
     let served = c .before .before .serve .ensures ∙ ap (λ (t : Progress). serve job payload number t) (c .before .before .before .reach3 .ensures) in
-    let pair = over job payload p script (l .i) more (event .result) (event .ensures) _ accepted q served (c .if3 .taken) in
+    let pair = over job payload p script (l .i) more (event .result) (event .ensures) _ accepted q served (c .if4 .taken) in
     ended q refl (passes number _ pair (note .ensures .1) (l .inv .5))
 
 pub work-spec : {M : Type 1} → statement M
@@ -169,22 +212,28 @@ work-spec =
     (λ c. search needs)
     (λ c. search needs)
     (λ c. search needs)
-    (λ c κs. search needs)
-    (λ c. search needs)
-    (λ c κs. search needs)
-    (λ c κs. search needs)
-    (λ c. search needs)
-    (λ c κs. search needs)
-    add-events
     add-i
+    (λ c κs. search needs)
+    pass-requires
+    add-c
+    add-events
+    loop-less
+    loop-again
+    (λ c κs. search needs)
+    (λ c. search needs)
+    (λ c κs. search needs)
+    (λ c κs. search needs)
+    (λ c. search needs)
+    (λ c κs. search needs)
+    add-events-2
     (λ c κs. search needs)
     (λ c κs. search needs)
     serve-requires
-    loop-less
-    loop-again
     loop-less-2
     loop-again-2
-    same-length
+    loop-less-3
+    loop-again-3
+    (λ c. search needs)
     returns
     same-length-2
     returns-2

@@ -1,0 +1,37 @@
+-- A pair amid a buffered move: document 01, Events, "Before the end no status is set. No other place of the buffer is touched." It moves
+-- one byte and ends nothing, so the run over pairs takes it in place. That the rules make of such a pair what is said here is
+-- proofs/Midway.antt.
+use mathlib.Core.Bool.{Bool, false, not}
+use mathlib.Core.List.{List, [], _∷_}
+use Prim.Native.Nat.{ℕ, _+_}
+use lib.Dec.{eqb}
+use lib.ListN.{set}
+use Rattle.control.specs.Turn.{send, receive, waits}
+use Rattle.control.specs.declared.turn.Turn.{Turn}
+use Rattle.controller.specs.Record.{byteCount, place, sound, withBuffer}
+use Rattle.controller.specs.Transfer.{counted}
+use Rattle.controller.specs.declared.record.Controller.{Controller}
+use Rattle.notation.specs.Choice.{if_then_else_, _and_}
+
+-- a byte in, in Receive; a byte out that was acknowledged, in Send
+unfoldable pub carries : Turn → ℕ → ℕ → Bool
+carries turn event argument =
+    if waits turn (receive ∷ []) then eqb event 7
+    else if waits turn (send ∷ []) then eqb event 6 and eqb argument 0
+    else false
+
+-- in Buffered mode, and the byte is not the last
+unfoldable pub isAmid : ℕ → ℕ → Controller → Bool
+isAmid event argument c =
+    carries (c .turn) event argument and c .control .mode and sound c and not (eqb (c .moved + 1) (byteCount c))
+
+-- the buffer after it: a byte in is stored at the moved count
+unfoldable pub bufferAfter : ℕ → ℕ → ℕ → List ℕ → List ℕ
+bufferAfter event argument moved buffer = if eqb event 7 then set buffer moved argument else buffer
+
+-- the record after it, and the value: a byte out is the one at the moved count
+unfoldable pub amidNext : ℕ → ℕ → Controller → Controller
+amidNext event argument c = counted (withBuffer c (bufferAfter event argument (c .moved) (c .buffer)))
+
+unfoldable pub amidValue : ℕ → Controller → ℕ
+amidValue event c = if eqb event 6 then place c (c .moved) else 0
