@@ -4,6 +4,8 @@ use mathlib.Core.Bool.{Bool}
 use mathlib.Core.List.{List, [], _∷_}
 use Prim.Native.Nat.{ℕ, _+_, _%_}
 use lib.Dec.{eqb}
+use Rattle.answer.specs.Number.{refusalOf, valueOf}
+use Rattle.answer.specs.declared.Answer.{Answer}
 use Rattle.control.specs.Turn.{off, host, free, busy, listen, address, send, receive, slaveReceive, slaveSend, stopping, restarting}
 use Rattle.control.specs.declared.turn.Called.the-variants.{Own, General}
 use Rattle.control.specs.declared.turn.Called.{Called}
@@ -13,6 +15,7 @@ use Rattle.control.specs.declared.turn.Turn.the-variants.{Off, Host, Free, Busy
 use Rattle.control.specs.declared.turn.Turn.{Turn}
 use Rattle.controller.specs.Access.{readOf}
 use Rattle.controller.specs.Reply.{Outcome}
+use Rattle.controller.specs.declared.record.Controller.{Controller}
 use Rattle.notation.specs.Choice.{if_then_else_}
 
 -- "at A0h, whether a STOP or a START came": 16 for a START
@@ -43,6 +46,10 @@ turnNumber Restarting = restarting
 -- the pointer, and 128 more where the software reset is armed. A pointer is at most 7: of a larger number the low seven bits count.
 unfoldable pub pointerByte : ℕ → Bool → ℕ
 pointerByte pointer armed = if armed then pointer % 128 + 128 else pointer % 128
+
+-- an answer in the paper's numbers, with the record after it
+unfoldable pub leaves : Answer → Controller → Outcome
+leaves answer c = record { next = c; refused = refusalOf answer; value = valueOf answer }
 
 -- refusal number (0 accepted), value, what registers 0 and 3 read after it, hand place, moved count, pointer, turn
 unfoldable pub entryOf : Outcome → List ℕ

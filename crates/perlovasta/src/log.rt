@@ -1,22 +1,13 @@
 // The eight bytes of the log for one group.
+use answer::Answer;
 use control::turn::Called;
 use control::turn::Edge;
 use control::turn::Turn;
 use controller::record::Controller;
-use controller::reply::Reply;
 ghost use mathlib.Core.Path.{_≡_};
-ghost use Rattle.controller.specs.Access.{readOf};
-ghost use Rattle.controller.specs.Reply.{outcomeOf};
-ghost use Rattle.perlovasta.specs.Log.{edgeMark, calledMark, turnNumber, pointerByte, entryOf};
-
-// What a register reads.
-fn reading(c: Controller, register: u8) -> u8
-    ensures { λ r. ⌜ r ≡ (readOf c register) .value ⌝ }
-{
-    let reply = c.read(register);
-    let answer = reply.answer;
-    answer.value()
-}
+ghost use mathlib.Core.Bool.{true};
+ghost use Rattle.controller.specs.Record.{sound};
+ghost use Rattle.perlovasta.specs.Log.{edgeMark, calledMark, turnNumber, pointerByte, leaves, entryOf};
 
 // 16 for a START, at A0h.
 fn mark_edge(status: u8, edge: Edge) -> u8
@@ -69,18 +60,18 @@ fn mark_pointer(pointer: u8, armed: bool) -> u8
     if armed { low + 128 } else { low }
 }
 
-// The bytes for one group.
-pub(crate) fn log_entry(reply: Reply) -> [u8; 8]
-    ensures { λ r. ⌜ r ≡ entryOf (outcomeOf reply) ⌝ }
+// The bytes for one group: what it answered, and the record after it. (Of a sound record registers 0 and 3 read these two bytes.)
+pub(crate) fn log_entry(answer: Answer, c: Controller) -> [u8; 8]
+    requires { ⌜ sound c ≡ true ⌝ }
+    ensures { λ r. ⌜ r ≡ entryOf (leaves answer c) ⌝ }
 {
-    let answer = reply.answer;
-    let c = reply.controller;
     let turn = c.turn;
+    let flags = c.control;
     [
         answer.refused(),
         answer.value(),
-        reading(c, 0),
-        reading(c, 3),
+        turn.status(),
+        flags.byte(turn.interrupts()),
         c.hand,
         c.moved,
         mark_pointer(c.pointer, c.armed),

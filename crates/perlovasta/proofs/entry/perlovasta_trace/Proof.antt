@@ -9,7 +9,9 @@ use lib.Dec.{ltb}
 use lib.ListN.{length}
 use denote.Ref.{now}
 use Rattle.notation.proofs.Cases.{if-true, if-false, or-left, or-right, or-false}
+use Rattle.controller.specs.Record.{sound}
 use Rattle.controller.specs.Reset.{fresh}
+use Rattle.laws.proofs.Soundness.{fresh-is-sound}
 use Rattle.controller.specs.declared.record.Controller.{Controller}
 use Rattle.notation.specs.Choice.{_or_}
 use Rattle.notation.specs.Overlay.{laid}
@@ -41,7 +43,7 @@ put-log-requires c κs =
     let s = c .before .before .before .before .before .before .before in
     let room = length (now (s .args .log)) in
     let groups = length (now (s .args .trace)) / 3 in
-    ltb-false room (8 * groups) (same-room room groups ∙ c .before .before .if2 .left)
+    (ltb-false room (8 * groups) (same-room room groups ∙ c .before .before .if2 .left), ap sound (c .before .fresh .ensures) ∙ fresh-is-sound)
 
 returns-3 : tie.Need-returns-3
 unfolding traceCall
