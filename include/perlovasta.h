@@ -38,7 +38,8 @@ extern "C" {
  * destination  of a read, at least n bytes; its first n bytes are written for
  *              answer 0 of a read and never otherwise, its rest stays
  * out          at least 69 bytes; begins with the bytes sent, its rest stays
- * script       pairs (event, argument), taken while the job lasts
+ * script       pairs (event, argument), taken while the job lasts; the events
+ *              are listed at the end
  * report       at least 11 bytes; its first 11 are written, its rest stays:
  *                0       the answer, see below
  *                1       for answer 28 the refusal's number, else 0
@@ -107,6 +108,18 @@ bool perlovasta_job(uint8_t kind, uint8_t address, uint8_t n,
  */
 bool perlovasta_trace(const uint8_t *trace, size_t trace_len,
                       uint8_t *log, size_t log_len);
+
+/*
+ * Events, by number; the argument is 0 where none is named:
+ *   1  own START                       8  arbitration lost in the address
+ *   2  another's START                    byte; the winner's byte
+ *   3  another's STOP                  9  arbitration lost in a data byte
+ *   4  own STOP                       10  START or STOP at an illegal place
+ *   5  address byte; the byte         11  SDA held after nine clocks
+ *   6  byte out; 0 ACK, 1 NACK        12  SCL low past the time-out
+ *   7  byte in; the byte              13  idle past the time-out
+ *                                     14  reset pin
+ */
 
 #ifdef __cplusplus
 }

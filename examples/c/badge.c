@@ -21,18 +21,20 @@ static const char *const why[] = {
 
 int main(int argc, char **argv)
 {
-    uint8_t badge[BADGE], out[PERLOVASTA_OUT], report[PERLOVASTA_REPORT], script[SCRIPT];
+    uint8_t badge[BADGE], out[PERLOVASTA_OUT], report[PERLOVASTA_REPORT], script[SCRIPT + 1];
     const uint8_t no_data = 0; /* a read has no data, but its pointer must not be NULL */
-    FILE *file = argc == 2 ? fopen(argv[1], "rb") : NULL;
+    FILE *file = fopen(argc == 2 ? argv[1] : "", "rb");
     if (file == NULL) {
-        fputs("usage: badge SCRIPT\n", stderr);
+        perror("usage: badge SCRIPT");
         return 1;
     }
-    size_t length = fread(script, 1, SCRIPT, file);
+    size_t length = fread(script, 1, sizeof script, file);
     fclose(file);
 
-    perlovasta_job(PERLOVASTA_READ, READER, BADGE, &no_data, 0, badge, sizeof badge,
-                   out, sizeof out, script, length, report, sizeof report);
+    /* One byte more than a script may have makes its length odd: the answer is 21. */
+    if (!perlovasta_job(PERLOVASTA_READ, READER, BADGE, &no_data, 0, badge, sizeof badge,
+                        out, sizeof out, script, length, report, sizeof report))
+        return 1;
     uint8_t answer = report[0];
     if (answer == 28) {
         printf("no badge: %s: refusal %u\n", why[answer - 21], report[1]);

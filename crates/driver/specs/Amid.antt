@@ -20,7 +20,7 @@ carries turn event argument =
     else if waits turn (send ∷ []) then eqb event 6 and eqb argument 0
     else false
 
--- in Buffered mode, and the byte is not the last
+-- in Buffered mode, of a sound record, and the byte is not the last
 unfoldable pub isAmid : ℕ → ℕ → Controller → Bool
 isAmid event argument c =
     carries (c .turn) event argument and c .control .mode and sound c and not (eqb (c .moved + 1) (byteCount c))
@@ -29,7 +29,7 @@ isAmid event argument c =
 unfoldable pub bufferAfter : ℕ → ℕ → ℕ → List ℕ → List ℕ
 bufferAfter event argument moved buffer = if eqb event 7 then set buffer moved argument else buffer
 
--- the record after it, and the value: a byte out is the one at the moved count
+-- the record after it, and the value: a byte out is the one at the moved count; a byte in is acknowledged, 0
 unfoldable pub amidNext : ℕ → ℕ → Controller → Controller
 amidNext event argument c = counted (withBuffer c (bufferAfter event argument (c .moved) (c .buffer)))
 

@@ -139,6 +139,6 @@ serve job payload event p =
     else if eqb event 4 then finishes p
     else atStatus job payload (reads (p .controller) 0) p
 
--- there is such work, or the driver waits at F8h: `serve` then leaves all as it is
+-- there is such work; where there is none the driver waits at F8h, and `serve` leaves all as it is
 unfoldable pub hasWork : ℕ → Controller → Bool
 hasWork event c = eqb event 14 or eqb event 4 or not (eqb (reads c 0) 0xF8)

@@ -11,7 +11,7 @@ ghost use Rattle.controller.specs.Record.{sound};
 ghost use Rattle.notation.specs.Overlay.{laid};
 ghost use Rattle.perlovasta.specs.Trace.{badTrace, logOf};
 
-// The trace ends in a group, or a group is of another kind.
+// The trace ends amid a group, or a group is of another kind.
 pub(crate) fn is_bad(trace: &[u8]) -> bool
     ensures { λ r. ⌜ r ≡ badTrace (now (trace .entry)) ⌝ }
 {

@@ -29,13 +29,18 @@ pub fn rows(runs: usize) -> Vec<Row> {
     let write_68 = script([6, 0], 68);
     let mixed = steered(&mut Random::new(9665), GROUPS, 10);
     vec![
-        job_row("read of 8", runs, &job(1, 8, &read_8)),
-        job_row("read of 68", runs, &job(1, 68, &read_68)),
-        job_row("write of 68", runs, &job(0, 68, &write_68)),
+        job_row("read of 8", runs, &job(1, 8, &read_8), 0),
+        job_row("read of 68", runs, &job(1, 68, &read_68), 0),
+        job_row("write of 68", runs, &job(0, 68, &write_68), 0),
         // Own STOP, where own START is expected.
-        job_row("job with first event refused", runs, &job(1, 8, &[4, 0])),
-        trace_row("refused events, a trace", runs, &refused()),
-        trace_row("mixed trace", runs, &mixed),
+        job_row(
+            "job with first event refused",
+            runs,
+            &job(1, 8, &[4, 0]),
+            28,
+        ),
+        trace_row("refused events, a trace", runs, &refused(), Some(8)),
+        trace_row("mixed trace", runs, &mixed, None),
     ]
 }
 
@@ -76,7 +81,8 @@ const LENT: Lent = Lent {
     report: [0; REPORT_LEN],
 };
 
-fn job_row(name: &'static str, runs: usize, input: &Input) -> Row {
+/// A job, and the number it has to be answered.
+fn job_row(name: &'static str, runs: usize, input: &Input, answer: u8) -> Row {
     let (mut library, mut model) = (LENT, LENT);
     let times = measure(
         runs,
@@ -84,6 +90,7 @@ fn job_row(name: &'static str, runs: usize, input: &Input) -> Row {
         || model_job(black_box(input), black_box(&mut model)),
     );
     assert!(library == model, "{name}: library and model disagree");
+    assert_eq!(library.report[0], answer, "{name}");
     Row {
         name,
         pieces: input.script.len() / 2,
@@ -113,10 +120,12 @@ fn model_job(input: &Input, lent: &mut Lent) {
     ));
 }
 
-fn trace_row(name: &'static str, runs: usize, groups: &[Group]) -> Row {
+/// A trace, and the number by which all groups but the first have to be refused, if one.
+fn trace_row(name: &'static str, runs: usize, groups: &[Group], refusal: Option<u8>) -> Row {
     let trace = groups.as_flattened();
     let mut library = vec![0; ENTRY_LEN * groups.len()];
     let mut model = library.clone();
+    assert!(sys::trace(trace, &mut library), "{name}: not run");
     let times = measure(
         runs,
         || {
@@ -127,6 +136,11 @@ fn trace_row(name: &'static str, runs: usize, groups: &[Group]) -> Row {
         },
     );
     assert!(library == model, "{name}: library and model disagree");
+    let mut later = library.chunks(ENTRY_LEN).skip(1);
+    assert!(
+        later.all(|entry| refusal.is_none_or(|number| entry[0] == number)),
+        "{name}"
+    );
     Row {
         name,
         pieces: groups.len(),

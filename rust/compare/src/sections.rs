@@ -38,7 +38,7 @@ fn trace_sections(tally: &Tally) -> Vec<Section> {
     let status = statuses.map(|s| Cell::new(format!("{s:02X}h"), tally.status[usize::from(s)]));
     let started = tally.turn[17];
     let edges = vec![
-        Cell::new("STOP", tally.status[0xA0] - started),
+        Cell::new("STOP", tally.status[0xA0].saturating_sub(started)),
         Cell::new("START", started),
     ];
     let turns = TURN_NAMES.map(|(name, number)| Cell::new(name, tally.turn[number]));

@@ -85,7 +85,7 @@ pub fn trace(trace: &[u8], log: &mut [u8]) -> bool {
     unsafe { c::perlovasta_trace(trace.as_ptr(), trace.len(), log.as_mut_ptr(), log.len()) }
 }
 
-/// Whether the two share a byte.
+/// Whether the two share a byte. (An empty one inside the other counts too.)
 fn overlap(a: &[u8], b: &[u8]) -> bool {
     let (a, b) = (a.as_ptr_range(), b.as_ptr_range());
     a.start < b.end && b.start < a.end

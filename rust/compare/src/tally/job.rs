@@ -7,7 +7,7 @@ impl Tally {
     /// Counts a job after it was run.
     pub fn count_job(&mut self, case: &JobCase, given: bool) {
         self.jobs += 1;
-        self.count_flaw(case);
+        self.count_flaw(case, given);
         if !given {
             return;
         }
@@ -25,11 +25,19 @@ impl Tally {
         }
     }
 
-    /// Counts what is wrong with it, if it is one thing: then the answer is for that.
-    fn count_flaw(&mut self, case: &JobCase) {
+    /// Counts what is wrong with it, if it is one thing and was answered so: 21, or for the report none.
+    fn count_flaw(&mut self, case: &JobCase, given: bool) {
         let [flaw] = case.flaws()[..] else {
             return;
         };
+        let answered = if given {
+            case.report[0] == 21
+        } else {
+            flaw == Flaw::Report
+        };
+        if !answered {
+            return;
+        }
         self.flaw[flaw as usize] += 1;
         if flaw == Flaw::Count {
             self.count[usize::from(case.n)] += 1;
