@@ -4,7 +4,7 @@ use mathlib.Core.Bool.{Bool, true, false, not, false≢true}
 use mathlib.Core.List.{List, [], _∷_}
 use mathlib.Core.Path.{_≡_, refl, sym, ap, subst, _∙_}
 use Prim.Native.Nat.{ℕ, _+_, _<_}
-use borrow.Author.Tests.{eqb-true, eq-eqb, not-true}
+use borrow.Author.Tests.{eqb-true, not-true}
 use lib.Dec.{eqb}
 use Rattle.control.proofs.Turning.{status-idle}
 use Rattle.control.specs.Turn.{host, address, send, receive, dataTurns, kind}
@@ -19,7 +19,7 @@ use Rattle.driver.specs.Service.{reads, hasWork}
 use Rattle.laws.proofs.Soundness.{event-stays-sound}
 use Rattle.laws.proofs.Status.{status-reads}
 use Rattle.notation.proofs.Cases.{if-true, if-false, and-left, and-right, split}
-use Rattle.notation.specs.Choice.{if_then_else_, _and_, _or_, among}
+use Rattle.notation.specs.Choice.{if_then_else_, _or_, among}
 
 -- what such a pair does, and that the driver has no work after it
 pub record Passes (event argument : ℕ) (c : Controller) : Type 0 where

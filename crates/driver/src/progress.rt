@@ -6,7 +6,7 @@ use answer::ending::Ending;
 use block::read_block;
 use controller::record::Controller;
 ghost use mathlib.Core.Path.{_≡_};
-ghost use Prim.Native.Nat.{_≤_, _<_};
+ghost use Prim.Native.Nat.{_≤_};
 ghost use Rattle.driver.specs.Service.{fetch, stopsRead};
 ghost use Rattle.driver.specs.Run.{starts, reaching, closes, resultOf};
 

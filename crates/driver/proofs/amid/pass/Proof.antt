@@ -1,15 +1,14 @@
 -- `pass` stores a byte in and notes a byte out: what each branch knows settles which.
 use mathlib.Core.List.{List, _∷_}
-use mathlib.Core.Path.{refl, sym, ap, _∙_}
+use mathlib.Core.Path.{refl, sym, ap}
 use Prim.Native.Nat.{ℕ}
 use borrow.Author.Needs.{needs}
 use borrow.Author.Tests.{eqb-true}
 use lib.Dec.{eqb}
-use lib.ListN.{getD, set}
+use lib.ListN.{getD}
 use denote.Ref.{now}
 use Rattle.driver.specs.Amid.{bufferAfter}
 use Rattle.notation.proofs.Cases.{if-true, if-false}
-use Rattle.notation.specs.Choice.{if_then_else_}
 use Rattle.notation.specs.Overlay.{laidAt}
 use Rattle.driver.proofs.amid.pass.Statement.{statement}
 use Rattle.driver.proofs.amid.pass.Tie as tie

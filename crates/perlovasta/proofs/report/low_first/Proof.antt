@@ -4,7 +4,7 @@ use mathlib.Core.Path.{_≡_, refl, sym, ap, _∙_}
 use Prim.Native.Nat.{ℕ, _+_, _-_, _≤_, _/_, _%_}
 use native.Mathlib.Omega.{arith}
 use borrow.Author.Needs.{needs}
-use lib.ListN.{length, set, length-set}
+use lib.ListN.{length, length-set}
 use Rattle.notation.proofs.Overlay.{at-start, none, one-more}
 use Rattle.notation.specs.Overlay.{laid, laidAt}
 use Rattle.perlovasta.specs.Report.{lowFirst}
