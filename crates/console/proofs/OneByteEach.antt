@@ -11,7 +11,8 @@ use Rattle.controller.specs.Event.{eventOf}
 use Rattle.controller.specs.declared.record.Controller.{Controller}
 use Rattle.driver.proofs.Steps.{serve-events}
 use Rattle.driver.specs.Run.{Report, Run, closes, breaks, sending, taking, run, starts, reports, declines, jobOf}
-use Rattle.driver.specs.Service.{serve}
+use Rattle.driver.specs.Service.{begins, workAt}
+use Rattle.driver.specs.Work.{Service, does, doesAll, serve}
 use Rattle.driver.specs.declared.job.Job.{Job}
 use Rattle.driver.specs.declared.progress.Progress.{Progress}
 use Rattle.notation.proofs.Cases.{split}
@@ -46,22 +47,22 @@ passed n event argument value rest r s = record {
 }
 
 -- a pair that was served
-served : (job : Job) (payload : List ℕ) (event : ℕ) (p : Progress) (c : Controller) (rest : List ℕ) (r : Run) →
-    Sends ((serve job payload event (taking p c)) .events) rest r → Sends (p .events + 1) rest r
+served : (service : Service) (event : ℕ) (p : Progress) (c : Controller) (rest : List ℕ) (r : Run) →
+    Sends ((serve service event (taking p c)) .events) rest r → Sends (p .events + 1) rest r
 unfolding taking
-served job payload event p c rest r s = subst (λ (n : ℕ). Sends n rest r) (serve-events job payload event (taking p c)) s
+served service event p c rest r s = subst (λ (n : ℕ). Sends n rest r) (serve-events service event (taking p c)) s
 
-runs : (job : Job) (payload : List ℕ) (p : Progress) (script : List ℕ) → Sends (p .events) script (run job payload p script)
+runs : (service : Service) (p : Progress) (script : List ℕ) → Sends (p .events) script (run service p script)
 unfolding run
-runs job payload p [] = broken p [] 27 0
-runs job payload p (event ∷ []) = broken p (event ∷ []) 27 0
-runs job payload p (event ∷ argument ∷ rest) =
+runs service p [] = broken p [] 27 0
+runs service p (event ∷ []) = broken p (event ∷ []) 27 0
+runs service p (event ∷ argument ∷ rest) =
     let o = eventOf (p .controller) event argument in
-    let q = serve job payload event (taking p (o .next)) in
+    let q = serve service event (taking p (o .next)) in
     split (Sends (p .events) (event ∷ argument ∷ rest)) (eqb (o .refused) 0) _ _
     (λ _. passed (p .events) event argument (o .value) rest _
-    (served job payload event p (o .next) rest _
-    (split (Sends (q .events) rest) (q .over) (closes q) (run job payload q rest) (λ _. closed q rest) (λ _. runs job payload q rest))))
+    (served service event p (o .next) rest _
+    (split (Sends (q .events) rest) (q .over) (closes q) (run service q rest) (λ _. closed q rest) (λ _. runs service q rest))))
     (λ _. broken p (event ∷ argument ∷ rest) 28 (o .refused))
 
 abbrev Each : List ℕ → Report → Type 0
@@ -71,11 +72,11 @@ declined : (c : Controller) (answer : ℕ) (script : List ℕ) → Each script (
 unfolding declines sentCount
 declined c answer script = refl
 
-worked : (job : Job) (payload : List ℕ) (script : List ℕ) (c : Controller) → Each script (reports job (run job payload (starts job c) script))
-unfolding reports starts
+worked : (job : Job) (payload : List ℕ) (script : List ℕ) (c : Controller) → Each script (reports job (run (workAt job payload) (starts (begins job) c) script))
+unfolding reports starts doesAll does
 worked job payload script c =
-    let s = runs job payload (starts job c) script in
-    let e : (run job payload (starts job c) script) .result .events ≡ s .used = omega (arith, s .events) in
+    let s = runs (workAt job payload) (starts (begins job) c) script in
+    let e : (run (workAt job payload) (starts (begins job) c) script) .result .events ≡ s .used = omega (arith, s .events) in
     s .sent ∙ ap (λ (n : ℕ). sentCount n script) (sym e)
 
 pub one-byte-each : (job : Job) (payload : List ℕ) (room places : ℕ) (script : List ℕ) (c : Controller) →

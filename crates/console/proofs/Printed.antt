@@ -15,6 +15,7 @@ use Rattle.controller.specs.declared.record.Controller.{Controller}
 use Rattle.answer.specs.Ending.{numberOf}
 use Rattle.driver.specs.Run.{Report, Result, Run, run, starts, handsUp, resultOf, reports, declines, jobOf}
 use Rattle.notation.specs.Overlay.{laid}
+use Rattle.driver.specs.Service.{begins, workAt}
 use Rattle.driver.specs.declared.job.Job.{Job}
 use Rattle.driver.specs.declared.job.JobResult.{JobResult}
 use Rattle.noninterference.proofs.Fits.{fits, begins-with}
@@ -63,7 +64,7 @@ module _ (job : Job) (payload script : List ℕ) (c : Controller) (places : leng
   unfolding jobOf
   handed-none =
       split (HandsNothing job) _ _ _ (λ _. declined-nothing job c 21)
-      (λ _. split (HandsNothing job) _ _ _ (λ _. worked-nothing job (run job payload (starts job c) script)) (λ _. declined-nothing job c 22))
+      (λ _. split (HandsNothing job) _ _ _ (λ _. worked-nothing job (run (workAt job payload) (starts (begins job) c) script)) (λ _. declined-nothing job c 22))
 
   handed-length : length (gives .handed) ≡ handedCount job (gives .result .answer)
   unfolding handedCount

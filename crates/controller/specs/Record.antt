@@ -54,111 +54,43 @@ sound c =
     leb (c .pointer) 7 and leb (c .hand) 68 and leb (c .moved) 68 and leb (c .registers .speed) 3 and
     hostSound (c .turn) and moveSound c
 
+-- a record of these parts
+abbrev pub made : List ℕ → ℕ → ℕ → ℕ → Bool → Registers → Control → Turn → Controller
+made buffer hand moved pointer armed registers control turn = record {
+  buffer = buffer;
+  hand = hand;
+  moved = moved;
+  pointer = pointer;
+  armed = armed;
+  registers = registers;
+  control = control;
+  turn = turn;
+}
+
 -- The record with one item changed.
 abbrev pub withBuffer : Controller → List ℕ → Controller
-withBuffer c x = record {
-  buffer = x;
-  hand = c .hand;
-  moved = c .moved;
-  pointer = c .pointer;
-  armed = c .armed;
-  registers = c .registers;
-  control = c .control;
-  turn = c .turn;
-}
+withBuffer c x = made x (c .hand) (c .moved) (c .pointer) (c .armed) (c .registers) (c .control) (c .turn)
 
 abbrev pub withPlace : Controller → ℕ → ℕ → Controller
-withPlace c i x = record {
-  buffer = set (c .buffer) i x;
-  hand = c .hand;
-  moved = c .moved;
-  pointer = c .pointer;
-  armed = c .armed;
-  registers = c .registers;
-  control = c .control;
-  turn = c .turn;
-}
+withPlace c i x = made (set (c .buffer) i x) (c .hand) (c .moved) (c .pointer) (c .armed) (c .registers) (c .control) (c .turn)
 
 abbrev pub withHand : Controller → ℕ → Controller
-withHand c x = record {
-  buffer = c .buffer;
-  hand = x;
-  moved = c .moved;
-  pointer = c .pointer;
-  armed = c .armed;
-  registers = c .registers;
-  control = c .control;
-  turn = c .turn;
-}
+withHand c x = made (c .buffer) x (c .moved) (c .pointer) (c .armed) (c .registers) (c .control) (c .turn)
 
 abbrev pub withMoved : Controller → ℕ → Controller
-withMoved c x = record {
-  buffer = c .buffer;
-  hand = c .hand;
-  moved = x;
-  pointer = c .pointer;
-  armed = c .armed;
-  registers = c .registers;
-  control = c .control;
-  turn = c .turn;
-}
+withMoved c x = made (c .buffer) (c .hand) x (c .pointer) (c .armed) (c .registers) (c .control) (c .turn)
 
 abbrev pub withPointer : Controller → ℕ → Controller
-withPointer c x = record {
-  buffer = c .buffer;
-  hand = c .hand;
-  moved = c .moved;
-  pointer = x;
-  armed = c .armed;
-  registers = c .registers;
-  control = c .control;
-  turn = c .turn;
-}
+withPointer c x = made (c .buffer) (c .hand) (c .moved) x (c .armed) (c .registers) (c .control) (c .turn)
 
 abbrev pub withArmed : Controller → Bool → Controller
-withArmed c x = record {
-  buffer = c .buffer;
-  hand = c .hand;
-  moved = c .moved;
-  pointer = c .pointer;
-  armed = x;
-  registers = c .registers;
-  control = c .control;
-  turn = c .turn;
-}
+withArmed c x = made (c .buffer) (c .hand) (c .moved) (c .pointer) x (c .registers) (c .control) (c .turn)
 
 abbrev pub withRegisters : Controller → Registers → Controller
-withRegisters c x = record {
-  buffer = c .buffer;
-  hand = c .hand;
-  moved = c .moved;
-  pointer = c .pointer;
-  armed = c .armed;
-  registers = x;
-  control = c .control;
-  turn = c .turn;
-}
+withRegisters c x = made (c .buffer) (c .hand) (c .moved) (c .pointer) (c .armed) x (c .control) (c .turn)
 
 abbrev pub withControl : Controller → Control → Controller
-withControl c x = record {
-  buffer = c .buffer;
-  hand = c .hand;
-  moved = c .moved;
-  pointer = c .pointer;
-  armed = c .armed;
-  registers = c .registers;
-  control = x;
-  turn = c .turn;
-}
+withControl c x = made (c .buffer) (c .hand) (c .moved) (c .pointer) (c .armed) (c .registers) x (c .turn)
 
 abbrev pub withTurn : Controller → Turn → Controller
-withTurn c x = record {
-  buffer = c .buffer;
-  hand = c .hand;
-  moved = c .moved;
-  pointer = c .pointer;
-  armed = c .armed;
-  registers = c .registers;
-  control = c .control;
-  turn = x;
-}
+withTurn c x = made (c .buffer) (c .hand) (c .moved) (c .pointer) (c .armed) (c .registers) (c .control) x

@@ -15,7 +15,7 @@ use Rattle.controller.specs.Reply.{Outcome, accepts}
 use Rattle.controller.specs.Transfer.{cursor, isLast, counted, dataOut, byteOut, received, dataIn, byteIn}
 use Rattle.controller.specs.declared.record.Controller.{Controller}
 use Rattle.driver.specs.Amid.{carries, isAmid, bufferAfter, amidNext, amidValue}
-use Rattle.driver.specs.Service.{reads, hasWork}
+use Rattle.driver.specs.Work.{reads, hasWork}
 use Rattle.laws.proofs.Soundness.{event-stays-sound}
 use Rattle.laws.proofs.Status.{status-reads}
 use Rattle.notation.proofs.Cases.{if-true, if-false, and-left, and-right, split}

@@ -19,9 +19,8 @@ use Rattle.notation.proofs.Overlay.{at-start, none}
 use Rattle.driver.proofs.Steps.{drop-one}
 use Rattle.driver.specs.Run.{Run, closes, breaks, sending, taking, run}
 use Rattle.notation.specs.Overlay.{laid, laidAt}
-use Rattle.driver.specs.Service.{ends, serve}
+use Rattle.driver.specs.Work.{Service, ends, follows, serve}
 use Rattle.answer.specs.declared.ending.Ending.the-variants.{Unfinished, Refused}
-use Rattle.driver.specs.declared.job.Job.{Job}
 use Rattle.driver.specs.declared.progress.Progress.{Progress}
 use Rattle.notation.proofs.Cases.{if-true, if-false}
 use Rattle.notation.specs.Choice.{if_then_else_}
@@ -64,26 +63,26 @@ passes {left} {rest} {whole} {at} {at′} {out} event value e noted l = record {
 }
 
 -- what comes after a pair that was served
-abbrev after : Job → List ℕ → Progress → List ℕ → Run
-after job payload q rest = if q .over then closes q else run job payload q rest
+abbrev after : Service → Progress → List ℕ → Run
+after service q rest = if q .over then closes q else run service q rest
 
 -- what a pair makes of the run, by the controller's answer
-abbrev pairOf : Job → List ℕ → Progress → ℕ → List ℕ → Outcome → Run
-pairOf job payload p event rest o =
+abbrev pairOf : Service → Progress → ℕ → List ℕ → Outcome → Run
+pairOf service p event rest o =
     if eqb (o .refused) 0
-    then sending event (o .value) (after job payload (serve job payload event (taking p (o .next))) rest)
+    then sending event (o .value) (after service (serve service event (taking p (o .next))) rest)
     else breaks p 28 (o .refused)
 
-run-pair : (job : Job) (payload : List ℕ) (p : Progress) (event argument : ℕ) (rest : List ℕ) →
-    run job payload p (event ∷ argument ∷ rest) ≡ pairOf job payload p event rest (eventOf (p .controller) event argument)
+run-pair : (service : Service) (p : Progress) (event argument : ℕ) (rest : List ℕ) →
+    run service p (event ∷ argument ∷ rest) ≡ pairOf service p event rest (eventOf (p .controller) event argument)
 unfolding run
-run-pair job payload p event argument rest = refl
+run-pair service p event argument rest = refl
 
-run-short : (job : Job) (payload : List ℕ) (p : Progress) (xs : List ℕ) → length xs < 2 → run job payload p xs ≡ breaks p 27 0
+run-short : (service : Service) (p : Progress) (xs : List ℕ) → length xs < 2 → run service p xs ≡ breaks p 27 0
 unfolding run
-run-short job payload p [] h = refl
-run-short job payload p (x ∷ []) h = refl
-run-short job payload p (x ∷ y ∷ xs) h = absurd (not-suc-le-zero (le-of-suc-le-suc (le-of-suc-le-suc h)))
+run-short service p [] h = refl
+run-short service p (x ∷ []) h = refl
+run-short service p (x ∷ y ∷ xs) h = absurd (not-suc-le-zero (le-of-suc-le-suc (le-of-suc-le-suc h)))
 
 -- the first two of what is left, and the rest
 pub drop-two : (xs : List ℕ) (i : ℕ) → i + 1 < length xs → drop i xs ≡ getD xs i 0 ∷ getD xs (i + 1) 0 ∷ drop (i + 2) xs
@@ -104,42 +103,42 @@ refusal-not-0 Unexpected = refl
 refusal-not-0 Inaccessible = refl
 refusal-not-0 Unsound = refl
 
-module _ (job : Job) (payload : List ℕ) (p : Progress) (script : List ℕ) (i : ℕ) where
+module _ (service : Service) (p : Progress) (script : List ℕ) (i : ℕ) where
   -- the script's end
-  pub runs-out : length script - i < 2 → run job payload p (drop i script) ≡ closes (ends p (p .controller) Unfinished)
-  unfolding closes breaks ends
-  runs-out h = run-short job payload p (drop i script) (omega (arith, length-drop i script))
+  pub runs-out : length script - i < 2 → run service p (drop i script) ≡ closes (follows (ends Unfinished) p)
+  unfolding closes breaks follows
+  runs-out h = run-short service p (drop i script) (omega (arith, length-drop i script))
 
   module _ (h : i + 1 < length script) (r : Reply) (e : outcomeOf r ≡ eventOf (p .controller) (getD script i 0) (getD script (i + 1) 0)) where
     answered : (a : Answer) → r .answer ≡ a →
-        run job payload p (drop i script)
-        ≡ pairOf job payload p (getD script i 0) (drop (i + 2) script) (record { next = r .controller; refused = refusalOf a; value = valueOf a })
+        run service p (drop i script)
+        ≡ pairOf service p (getD script i 0) (drop (i + 2) script) (record { next = r .controller; refused = refusalOf a; value = valueOf a })
     unfolding outcomeOf
     answered a q =
-        ap (λ (l : List ℕ). run job payload p l) (drop-two script i h)
-        ∙ run-pair job payload p (getD script i 0) (getD script (i + 1) 0) (drop (i + 2) script)
-        ∙ ap (λ (o : Outcome). pairOf job payload p (getD script i 0) (drop (i + 2) script) o)
+        ap (λ (l : List ℕ). run service p l) (drop-two script i h)
+        ∙ run-pair service p (getD script i 0) (getD script (i + 1) 0) (drop (i + 2) script)
+        ∙ ap (λ (o : Outcome). pairOf service p (getD script i 0) (drop (i + 2) script) o)
         (sym e ∙ ap (λ (x : Answer). record { next = r .controller; refused = refusalOf x; value = valueOf x }) q)
 
     -- the controller refused the event
-    pub refused : (why : Refusal) → r .answer ≡ Rejected why → run job payload p (drop i script) ≡ closes (ends p (p .controller) (Refused why))
-    unfolding closes breaks ends refusalOf
+    pub refused : (why : Refusal) → r .answer ≡ Rejected why → run service p (drop i script) ≡ closes (follows (ends (Refused why)) p)
+    unfolding closes breaks follows refusalOf
     refused why q = answered (Rejected why) q ∙ if-false _ _ _ (refusal-not-0 why)
 
     -- it accepted the event, and the driver did its work
-    module _ (value : ℕ) (a : r .answer ≡ Accepted value) (q : Progress) (s : q ≡ serve job payload (getD script i 0) (taking p (r .controller))) where
-      taken : run job payload p (drop i script) ≡ sending (getD script i 0) value (after job payload q (drop (i + 2) script))
+    module _ (value : ℕ) (a : r .answer ≡ Accepted value) (q : Progress) (s : q ≡ serve service (getD script i 0) (taking p (r .controller))) where
+      taken : run service p (drop i script) ≡ sending (getD script i 0) value (after service q (drop (i + 2) script))
       unfolding refusalOf valueOf if_then_else_
       taken =
-          answered (Accepted value) a ∙ ap (λ (t : Progress). sending (getD script i 0) value (after job payload t (drop (i + 2) script))) (sym s)
+          answered (Accepted value) a ∙ ap (λ (t : Progress). sending (getD script i 0) value (after service t (drop (i + 2) script))) (sym s)
 
-      pub over : q .over ≡ true → run job payload p (drop i script) ≡ sending (getD script i 0) value (closes q)
+      pub over : q .over ≡ true → run service p (drop i script) ≡ sending (getD script i 0) value (closes q)
       over o = taken ∙ ap (λ (t : Run). sending (getD script i 0) value t) (if-true _ _ _ o)
 
       -- (the run goes on from t, which is that progress)
       pub on : q .over ≡ false → {t : Progress} → t ≡ q →
-          run job payload p (drop i script) ≡ sending (getD script i 0) value (run job payload t (drop (i + 2) script))
+          run service p (drop i script) ≡ sending (getD script i 0) value (run service t (drop (i + 2) script))
       on o {t} e =
           taken
           ∙ ap (λ (r : Run). sending (getD script i 0) value r)
-          (if-false _ _ _ o ∙ ap (λ (u : Progress). run job payload u (drop (i + 2) script)) (sym e))
+          (if-false _ _ _ o ∙ ap (λ (u : Progress). run service u (drop (i + 2) script)) (sym e))

@@ -1,12 +1,12 @@
 -- What the proofs here cite: lists, the blocks of I2CDAT, and what the driver's work leaves as it was. Assumes nothing.
-use mathlib.Core.Bool.{Bool, true, false}
-use mathlib.Core.List.{List, [], _∷_, _++_}
+use mathlib.Core.Bool.{Bool, true, false, not}
+use mathlib.Core.List.{List, [], _∷_, _++_, map}
 use mathlib.Core.Path.{_≡_, refl, sym, ap, _∙_}
 use Prim.Native.Nat.{ℕ, zero, suc, _+_, _≤_, _<_}
 use native.Mathlib.Nat.{le-of-suc-le-suc, not-suc-le-zero}
 use native.Mathlib.Numerals.{add-one}
 use native.Mathlib.Omega.{arith}
-use borrow.Author.Tests.{ltb-false, eqb-true, not-false}
+use borrow.Author.Tests.{ltb-false, not-false, not-true}
 use lib.Dec.{T, eqb}
 use lib.ListN.{length, take, drop, getD, length-set}
 use lib.Seq.{drop-cons, drop-nil, getD-take, length-take-le}
@@ -16,13 +16,13 @@ use Rattle.controller.specs.Access.{readOf, writeOf}
 use Rattle.controller.specs.declared.record.Controller.{Controller}
 use Rattle.driver.specs.Request.{badLength, malformed}
 use Rattle.driver.specs.Run.{reaching}
-use Rattle.driver.specs.Service.{put, reads, load, fetchOne, fetch, goesOn, stops, ends, finishes, stopsRead, atStatus, hasWork, serve}
+use Rattle.driver.specs.Work.{Access, writes, readsData, readsAll, readsCount, counts, Then, goesOn, awaits, ends, finishes, Service, put, reads, made, fetchOne, fetch, does, doesAll, follows, performs, serve, hasWork}
 use Rattle.driver.specs.declared.job.Job.{Job}
 use Rattle.driver.specs.declared.progress.Progress.{Progress}
 use Rattle.notation.proofs.Among.{has, every, same, keys-in}
-use Rattle.notation.proofs.Cases.{if-false, or-left-off, or-right-off}
+use Rattle.notation.proofs.Cases.{if-true, if-false, or-left-off, or-right-off}
 use Rattle.notation.proofs.Overlay.{at-start, none, one-more}
-use Rattle.notation.specs.Choice.{if_then_else_, among}
+use Rattle.notation.specs.Choice.{if_then_else_, _or_, among}
 use Rattle.notation.specs.Overlay.{laid, laidAt}
 
 -- the first of what is left, and the rest
@@ -41,22 +41,15 @@ take-done (suc n) xs zero h = absurd (not-suc-le-zero h)
 take-done (suc n) [] (suc i) h = refl
 take-done (suc n) (x ∷ xs) (suc i) h = take-done n xs i (le-of-suc-le-suc h)
 
--- the data loaded are a block written
-pub load-block : (xs : List ℕ) (c : Controller) → load xs c ≡ written xs c
-unfolding load written put
-load-block [] c = refl
-load-block (x ∷ xs) c = load-block xs ((writeOf c 1 x) .next)
+-- bytes written to I2CDAT are a block written
+pub load-block : (xs : List ℕ) (rest : List Access) (p : Progress) → doesAll (map (writes 1) xs ++ rest) p ≡ doesAll rest (made p (written xs (p .controller)) (p .count) (p .fetched))
+unfolding doesAll does written put
+load-block [] rest p = refl
+load-block (x ∷ xs) rest p = load-block xs rest (does (writes 1 x) p)
 
 -- this record, and these bytes read back
 abbrev pub fetching : Progress → Controller → List ℕ → Progress
-fetching p c xs = record {
-  controller = c;
-  over = p .over;
-  ending = p .ending;
-  count = p .count;
-  events = p .events;
-  fetched = xs;
-}
+fetching p c xs = made p c (p .count) xs
 
 -- the bytes fetched are a block read, laid over those held
 fetch-laid : (n i : ℕ) (p : Progress) → i + n ≤ length (p .fetched) → fetch n i p ≡ fetching p (afterReads n (p .controller)) (laidAt i (valuesRead n (p .controller)) (p .fetched))
@@ -89,41 +82,57 @@ misses ks x h j t = go (eqb x j) (keys-in ks x h false (j ∷ []) t)
     go false e = e
 
 -- the driver's work takes no pair: the count of them stays
-either : (n : ℕ) (b : Bool) (q r : Progress) → q .events ≡ n → r .events ≡ n → (if b then q else r) .events ≡ n
-unfolding if_then_else_
-either n true q r e f = e
-either n false q r e f = f
-
 fetch-events : (more i : ℕ) (p : Progress) → (fetch more i p) .events ≡ p .events
 unfolding fetch fetchOne
 fetch-events zero i p = refl
 fetch-events (suc more) i p = fetch-events more (i + 1) (fetchOne i p)
 
-status-events : (job : Job) (payload : List ℕ) (status : ℕ) (p : Progress) → (atStatus job payload status p) .events ≡ p .events
-unfolding atStatus goesOn stops stopsRead ends
-status-events job payload status p =
-    either _ _ _ _ refl (either _ _ _ _ refl (either _ _ _ _ refl (either _ _ _ _ refl (either _ _ _ _ refl (either _ _ _ _ refl
-    (either _ _ _ _ (fetch-events (job .n) 0 p) (either _ _ _ _ refl (either _ _ _ _ refl refl))))))))
+does-events : (x : Access) (p : Progress) → (does x p) .events ≡ p .events
+unfolding does fetchOne
+does-events (writes register value) p = refl
+does-events (readsData at) p = refl
+does-events readsAll p = fetch-events (p .count) 0 p
+does-events readsCount p = refl
+does-events (counts count) p = refl
 
-pub serve-events : (job : Job) (payload : List ℕ) (event : ℕ) (p : Progress) → (serve job payload event p) .events ≡ p .events
-unfolding serve ends finishes
-serve-events job payload event p = either _ _ _ _ refl (either _ _ _ _ refl (status-events job payload (reads (p .controller) 0) p))
+all-events : (xs : List Access) (p : Progress) → (doesAll xs p) .events ≡ p .events
+unfolding doesAll
+all-events [] p = refl
+all-events (x ∷ xs) p = all-events xs (does x p) ∙ does-events x p
 
--- at F8h the driver waits, and where it has no work it leaves all as it is
-at-f8 : (job : Job) (payload : List ℕ) (p : Progress) → atStatus job payload 0xF8 p ≡ p
-unfolding atStatus among if_then_else_
-at-f8 job payload p = refl
+follows-events : (t : Then) (p : Progress) → (follows t p) .events ≡ p .events
+unfolding follows
+follows-events goesOn p = refl
+follows-events (awaits ending) p = refl
+follows-events (ends ending) p = refl
+follows-events finishes p = refl
 
-pub waits : (job : Job) (payload : List ℕ) (event : ℕ) (p : Progress) → hasWork event (p .controller) ≡ false → serve job payload event p ≡ p
+either : (n : ℕ) (b : Bool) (q r : Progress) → q .events ≡ n → r .events ≡ n → (if b then q else r) .events ≡ n
+unfolding if_then_else_
+either n true q r e f = e
+either n false q r e f = f
+
+pub serve-events : (service : Service) (event : ℕ) (p : Progress) → (serve service event p) .events ≡ p .events
+unfolding serve follows performs
+serve-events service event p =
+    let w = service (reads (p .controller) 0) (p .count) in
+    either _ _ _ _ refl (either _ _ _ _ refl (either _ _ _ _ refl (follows-events (w .after) _ ∙ all-events (w .accesses) p)))
+
+-- where the driver has no work it leaves all as it is
+pub waits : (service : Service) (event : ℕ) (p : Progress) → hasWork event (p .controller) ≡ false → serve service event p ≡ p
 unfolding serve hasWork
-waits job payload event p h =
-    let status = reads (p .controller) 0 in
+waits service event p h =
     let later = or-right-off (eqb event 14) _ h in
-    let f8 = eqb-true status 0xF8 (not-false _ (or-right-off (eqb event 4) _ later)) in
     if-false _ _ _ (or-left-off (eqb event 14) _ h)
     ∙ if-false _ _ _ (or-left-off (eqb event 4) _ later)
-    ∙ ap (λ (s : ℕ). atStatus job payload s p) f8
-    ∙ at-f8 job payload p
+    ∙ if-true _ _ _ (not-false _ (or-right-off (eqb event 4) _ later))
+
+-- where it has work, and not for the event, the status is not F8h
+pub works : (event : ℕ) (c : Controller) → hasWork event c ≡ true → eqb event 14 ≡ false → eqb event 4 ≡ false → eqb (reads c 0) 0xF8 ≡ false
+unfolding hasWork _or_
+works event c h e f =
+    let f8 = not (eqb (reads c 0) 0xF8) in
+    not-true _ (sym (ap (λ (b : Bool). b or eqb event 4 or f8) e ∙ ap (λ (b : Bool). b or f8) f) ∙ h)
 
 -- the progress as reached, where the record and the pairs taken are its own
 pub reached : (p : Progress) (events : ℕ) → p .events ≡ events → reaching p (p .controller) events ≡ p

@@ -9,7 +9,8 @@ use Rattle.controller.specs.Event.{eventOf}
 use Rattle.controller.specs.declared.record.Controller.{Controller}
 use Rattle.answer.specs.Ending.{numberOf, besideOf}
 use Rattle.driver.specs.Request.{malformed, ready}
-use Rattle.driver.specs.Service.{begins, serve}
+use Rattle.driver.specs.Service.{begins, workAt}
+use Rattle.driver.specs.Work.{Access, Service, doesAll, serve}
 use Rattle.answer.specs.declared.ending.Ending.the-variants.{Unfinished}
 use Rattle.driver.specs.declared.job.Job.{Job}
 use Rattle.driver.specs.declared.job.JobResult.{JobResult}
@@ -93,27 +94,27 @@ reaching p c events = record {
 
 -- "After each pair it does this work first, then looks for the next pair or the script's end. It takes pairs while the job lasts; later
 -- pairs aren't looked at." (A single byte left over is no pair; such a script is answered 21 before.)
-unfoldable pub run : Job → List ℕ → Progress → List ℕ → Run
-run job payload p [] = breaks p 27 0
-run job payload p (event ∷ []) = breaks p 27 0
-run job payload p (event ∷ argument ∷ rest) =
+unfoldable pub run : Service → Progress → List ℕ → Run
+run service p [] = breaks p 27 0
+run service p (event ∷ []) = breaks p 27 0
+run service p (event ∷ argument ∷ rest) =
     let o = eventOf (p .controller) event argument in
-    let q = serve job payload event (taking p (o .next)) in
+    let q = serve service event (taking p (o .next)) in
     if eqb (o .refused) 0
-    then sending event (o .value) (if q .over then closes q else run job payload q rest)
+    then sending event (o .value) (if q .over then closes q else run service q rest)
     else breaks p 28 (o .refused)
 
--- the driver as a job begins: its first writes done, nothing read back, no pair taken. The ending noted is a placeholder, since own
+-- the driver as a job begins: its first accesses done, nothing read back, no pair taken. The ending noted is a placeholder, since own
 -- STOP cannot come before 50h.
-unfoldable pub starts : Job → Controller → Progress
-starts job c = record {
-  controller = begins job c;
+unfoldable pub starts : List Access → Controller → Progress
+starts accesses c = doesAll accesses (record {
+  controller = c;
   over = false;
   ending = Unfinished;
   count = 0;
   events = 0;
   fetched = replicate 68 0;
-}
+})
 
 -- What a job gives: its result, "bytes sent and bytes handed up, both in order".
 pub record Report : Type 0 where
@@ -140,5 +141,5 @@ declines c answer = record {
 unfoldable pub jobOf : Job → List ℕ → ℕ → ℕ → List ℕ → Controller → Report
 jobOf job payload destinationLength outLength script c =
     if malformed job (length payload) destinationLength outLength (length script) then declines c 21
-    else if ready c then reports job (run job payload (starts job c) script)
+    else if ready c then reports job (run (workAt job payload) (starts (begins job) c) script)
     else declines c 22

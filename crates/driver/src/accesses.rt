@@ -5,7 +5,11 @@ use block::write_block;
 use controller::record::Controller;
 ghost use mathlib.Core.Path.{_≡_};
 ghost use Prim.Native.Nat.{_≤_};
-ghost use Rattle.driver.specs.Service.{put as writes, reads as value, countOf, begins, addresses, sends, movedCount, pointsBack};
+ghost use lib.ListN.{take};
+ghost use Rattle.address.specs.Number.{byteOf};
+ghost use Rattle.block.specs.Block.{written};
+ghost use Rattle.driver.specs.Service.{countOf};
+ghost use Rattle.driver.specs.Work.{put as writes, reads as value};
 
 // A register written: the record after it.
 pub(crate) fn put(c: Controller, register: u8, value: u8) -> Controller
@@ -38,7 +42,7 @@ fn count_of(direction: Direction, n: u8) -> u8
 // I2CCOUNT set, and a START asked for.
 pub(crate) fn begin(job: Job, c: Controller) -> Controller
     requires { ⌜ job .n ≤ 68 ⌝ }
-    ensures { λ r. ⌜ r ≡ begins job c ⌝ }
+    ensures { λ r. ⌜ r ≡ writes (writes (writes c 0 0x00) 2 (countOf (job .direction) (job .n))) 3 0x60 ⌝ }
 {
     let direction = job.direction;
     let pointed = put(c, 0, 0x00);
@@ -48,7 +52,7 @@ pub(crate) fn begin(job: Job, c: Controller) -> Controller
 
 // 08h: the address byte.
 pub(crate) fn send_address(job: Job, c: Controller) -> Controller
-    ensures { λ r. ⌜ r ≡ addresses job c ⌝ }
+    ensures { λ r. ⌜ r ≡ writes (writes c 1 (byteOf (job .address) (job .direction) .0)) 3 0x40 ⌝ }
 {
     let address = job.address;
     let direction = job.direction;
@@ -59,7 +63,7 @@ pub(crate) fn send_address(job: Job, c: Controller) -> Controller
 
 // 18h: the data.
 pub(crate) fn send_data(job: Job, payload: &[u8], c: Controller) -> Controller
-    ensures { λ r. ⌜ r ≡ sends job (now (payload .entry)) c ⌝ }
+    ensures { λ r. ⌜ r ≡ writes (written (take (job .n) (now (payload .entry))) c) 3 0x41 ⌝ }
 {
     let n = job.n as usize;
     if n < payload.len() {
@@ -67,18 +71,4 @@ pub(crate) fn send_data(job: Job, payload: &[u8], c: Controller) -> Controller
     } else {
         put(write_block(c, payload), 3, 0x41)
     }
-}
-
-// 30h: how many data bytes were moved.
-pub(crate) fn moved_count(c: Controller) -> u8
-    ensures { λ r. ⌜ r ≡ movedCount c ⌝ }
-{
-    reads(put(c, 0, 0x07), 2)
-}
-
-// The record after the moved count was read: the pointer went to 07h for it, and goes back to 00h.
-pub(crate) fn point_back(c: Controller) -> Controller
-    ensures { λ r. ⌜ r ≡ pointsBack c ⌝ }
-{
-    put(put(c, 0, 0x07), 0, 0x00)
 }

@@ -14,6 +14,7 @@ ghost use Prim.Native.Nat.{ℕ, _≤_};
 ghost use lib.Dec.{eqb};
 ghost use lib.ListN.{length};
 ghost use Rattle.driver.specs.Run.{closes, run as runs};
+ghost use Rattle.driver.specs.Service.{workAt};
 ghost use Rattle.notation.specs.Overlay.{laid, laidAt};
 ghost use Rattle.notation.specs.Choice.{if_then_else_};
 
@@ -43,9 +44,9 @@ pub(crate) fn work(
     script: &[u8],
 ) -> Progress
     requires { ⌜ (job .n ≤ 68) × (start .events ≡ 0) × (start .over ≡ false) ⌝ }
-    ensures result { λ r. ⌜ (closes r) .result ≡ (runs job (now (payload .entry)) start (now (script .entry))) .result ⌝ }
-    ensures fetched { λ r. ⌜ r .fetched ≡ (runs job (now (payload .entry)) start (now (script .entry))) .fetched ⌝ }
-    ensures sent { λ _. ⌜ now (out .exit) ≡ laid ((runs job (now (payload .entry)) start (now (script .entry))) .sent) (now (out .entry)) ⌝ }
+    ensures result { λ r. ⌜ (closes r) .result ≡ (runs (workAt job (now (payload .entry))) start (now (script .entry))) .result ⌝ }
+    ensures fetched { λ r. ⌜ r .fetched ≡ (runs (workAt job (now (payload .entry))) start (now (script .entry))) .fetched ⌝ }
+    ensures sent { λ _. ⌜ now (out .exit) ≡ laid ((runs (workAt job (now (payload .entry))) start (now (script .entry))) .sent) (now (out .entry)) ⌝ }
 {
     let mut p = start;
     let mut c = start.controller;
@@ -54,7 +55,7 @@ pub(crate) fn work(
     let mut i = 0;
     loop {
         if script.len() - i < 2 {
-            break p.reach(c, events).end(c, Ending::Unfinished);
+            break p.reach(c, events).end(Ending::Unfinished);
         }
         let event = script[i];
         let argument = script[i + 1];
@@ -69,7 +70,7 @@ pub(crate) fn work(
         let reply = c.event(event, argument);
         let answer = reply.answer;
         match answer {
-            Answer::Refused(why) => break p.reach(c, events).end(c, Ending::Refused(why)),
+            Answer::Refused(why) => break p.reach(c, events).end(Ending::Refused(why)),
             Answer::Accepted(value) => {
                 at = note(out, at, event, value);
                 c = reply.controller;

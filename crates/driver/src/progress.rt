@@ -7,7 +7,8 @@ use block::read_block;
 use controller::record::Controller;
 ghost use mathlib.Core.Path.{_≡_};
 ghost use Prim.Native.Nat.{_≤_};
-ghost use Rattle.driver.specs.Service.{fetch, stopsRead};
+ghost use Rattle.driver.specs.Service.{begins};
+ghost use Rattle.driver.specs.Work.{fetch};
 ghost use Rattle.driver.specs.Run.{starts, reaching, closes, resultOf};
 
 // What the driver keeps from one pair of the script to the next.
@@ -29,7 +30,7 @@ impl Progress {
     // A job begins.
     pub(crate) fn start(job: Job, c: Controller) -> Progress
         requires { ⌜ job .n ≤ 68 ⌝ }
-        ensures { λ r. ⌜ r ≡ starts job c ⌝ }
+        ensures { λ r. ⌜ r ≡ starts (begins job) c ⌝ }
     {
         let controller = begin(job, c);
         let ending = Ending::Unfinished;
@@ -53,7 +54,7 @@ impl Progress {
     }
 
     // So many bytes read from I2CDAT.
-    fn fetch(mut self, n: usize) -> Progress
+    pub(crate) fn fetch(mut self, n: usize) -> Progress
         requires { ⌜ n ≤ 68 ⌝ }
         ensures { λ r. ⌜ r ≡ fetch n 0 self ⌝ }
     {
@@ -63,16 +64,6 @@ impl Progress {
         self.controller = next;
         self.fetched = fetched;
         self
-    }
-
-    // 58h: the bytes read back, and a STOP asked for.
-    pub(crate) fn stop_read(self, job: Job) -> Progress
-        requires { ⌜ job .n ≤ 68 ⌝ }
-        ensures { λ r. ⌜ r ≡ stopsRead job (fetch (job .n) 0 self) ⌝ }
-    {
-        let p = self.fetch(job.n as usize);
-        let c = p.controller;
-        p.stop(c, Ending::Done, job.n)
     }
 
     // What the job gives beside the bytes.

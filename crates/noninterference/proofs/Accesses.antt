@@ -16,10 +16,10 @@ use Rattle.controller.specs.Access.{indirectAt, barsRead, barsWrite, readSound,
 use Rattle.controller.specs.I2ccon.{keeps, controlled, badCount, enabled, writeFlags, writeControl}
 use Rattle.controller.specs.Record.{place, sound, withPlace, withHand, withMoved, withPointer, withArmed, withRegisters, withControl, withTurn}
 use Rattle.controller.specs.Registers.{wrote, writePointer, readData, writeData, stored, withCount, writeAtPointer}
-use Rattle.controller.specs.Reply.{Outcome, accepts}
+use Rattle.controller.specs.Reply.{Outcome, refuses, accepts}
 use Rattle.controller.specs.declared.record.Controller.{Controller}
-use Rattle.driver.specs.Service.{put, reads}
-use Rattle.notation.proofs.Cases.{and-no-right}
+use Rattle.driver.specs.Work.{put, reads}
+use Rattle.notation.proofs.Cases.{and-no-right, split}
 use Rattle.notation.specs.Choice.{if_then_else_, _and_, _or_, among}
 
 -- the record after an accepted I2CCON write
@@ -80,3 +80,12 @@ status-read c s = ap (λ (o : Outcome). o .value) (status-accepted c s)
 pub data-read : (c : Controller) → sound c ≡ true → among (kind (c .turn)) wireTurns ≡ false → c .hand < 68 → readOf c 1 ≡ accepts (withHand c (c .hand + 1)) (place c (c .hand))
 unfolding readOf readSound indirectAt barsRead readData if_then_else_ _and_
 data-read c s w h = rw (s, w, ne-eqb (c .hand) 68 (omega arith))
+
+-- a read of register 2 changes nothing
+pub count-read : (c : Controller) → (readOf c 2) .next ≡ c
+unfolding readOf readSound refuses accepts if_then_else_
+count-read c =
+    split P (sound c) _ _ (λ _. split P (indirectAt c 2 5) _ _ (λ _. refl) (λ _. split P (barsRead c 2) _ _ (λ _. refl) (λ _. refl))) (λ _. refl)
+  where
+    P : Outcome → Type 0
+    P o = o .next ≡ c

@@ -14,6 +14,7 @@ use Rattle.address.specs.declared.number.Direction.{Direction}
 use Rattle.controller.specs.declared.record.Controller.{Controller}
 use Rattle.driver.specs.Request.{lent, malformed, ready}
 use Rattle.driver.specs.Run.{Report, run, starts, handsUp, reports, declines, jobOf}
+use Rattle.driver.specs.Service.{begins, workAt}
 use Rattle.notation.specs.Overlay.{laid}
 use Rattle.driver.specs.declared.job.Job.{Job}
 use Rattle.noninterference.specs.OldBytes.{Request, reportOf}
@@ -61,7 +62,7 @@ declined : (q : Request) (c : Controller) (answer : ℕ) → Fits q (declines c 
 unfolding declines
 declined q c answer = record { sent = omega arith; handed = omega arith }
 
-worked : (q : Request) (c : Controller) → length (c .buffer) ≡ 68 → malformed (q .job) (length (q .payload)) (q .destinationLength) (q .outLength) (length (q .script)) ≡ false → ready c ≡ true → Fits q (reports (q .job) (run (q .job) (q .payload) (starts (q .job) c) (q .script)))
+worked : (q : Request) (c : Controller) → length (c .buffer) ≡ 68 → malformed (q .job) (length (q .payload)) (q .destinationLength) (q .outLength) (length (q .script)) ≡ false → ready c ≡ true → Fits q (reports (q .job) (run (workAt (q .job) (q .payload)) (starts (begins (q .job)) c) (q .script)))
 unfolding reports
 worked q c l m r =
     let f = facts q m c r l .fits in

@@ -10,7 +10,8 @@ use Rattle.control.specs.Turn.{wireTurns, kind}
 use Rattle.controller.specs.Record.{place, sound, withHand}
 use Rattle.controller.specs.Reply.{Outcome, accepts}
 use Rattle.controller.specs.declared.record.Controller.{Controller}
-use Rattle.driver.specs.Service.{put, reads, load, fetchOne, fetch}
+use Rattle.block.specs.Block.{written}
+use Rattle.driver.specs.Work.{put, reads, made, fetchOne, fetch}
 use Rattle.driver.specs.declared.progress.Progress.{Progress}
 use Rattle.laws.proofs.Soundness.{write-stays-sound, read-stays-sound}
 use Rattle.notation.specs.Choice.{among}
@@ -31,22 +32,22 @@ pub put-sound : (c : Controller) (register value : ℕ) → sound c ≡ true →
 unfolding put
 put-sound c register value s = write-stays-sound c register value s
 
-pub load-all : (xs : List ℕ) (c : Controller) → sound c ≡ true → among (kind (c .turn)) wireTurns ≡ false → c .hand + length xs ≤ 68 → length (c .buffer) ≡ 68 → Loaded xs c (load xs c)
-unfolding load
+pub load-all : (xs : List ℕ) (c : Controller) → sound c ≡ true → among (kind (c .turn)) wireTurns ≡ false → c .hand + length xs ≤ 68 → length (c .buffer) ≡ 68 → Loaded xs c (written xs c)
+unfolding written put
 load-all [] c s w h l =
     record { turn = refl; registers = refl; sound = s; places = l; bytes = retake (c .buffer) (c .hand + 0) (c .hand) (omega arith) ∙ sym (append-nil _) }
 load-all (x ∷ xs) c s w h l =
     let d = dataWritten c x in
     let e = data-written c x s w (omega arith) in
     let inner = load-all xs d (subst (λ y. sound y ≡ true) e (put-sound c 1 x s)) w (omega arith) (length-set (c .buffer) (c .hand) x ∙ l) in
-    subst (λ y. Loaded (x ∷ xs) c (load xs y)) (sym e)
+    subst (λ y. Loaded (x ∷ xs) c (written xs y)) (sym e)
     (record {
       turn = inner .turn;
       registers = inner .registers;
       sound = inner .sound;
       places = inner .places;
       bytes =
-          retake (load xs d .buffer) (c .hand + suc (length xs)) (d .hand + length xs) (omega arith) ∙ inner .bytes ∙
+          retake (written xs d .buffer) (c .hand + suc (length xs)) (d .hand + length xs) (omega arith) ∙ inner .bytes ∙
           ap (λ (l : List ℕ). l ++ xs) (retake (set (c .buffer) (c .hand) x) (d .hand) (suc (c .hand)) (omega arith) ∙ take-suc-set (c .buffer) (c .hand) x (omega arith)) ∙
           append-snoc (take (c .hand) (c .buffer)) x xs;
     })
@@ -58,37 +59,21 @@ pub record Fetched (more i : ℕ) (p q : Progress) : Type 0 where
   pub sound : sound (q .controller) ≡ true
   pub places : length (q .controller .buffer) ≡ 68
   pub notes : length (q .fetched) ≡ 68
+  pub over : q .over ≡ p .over
   pub bytes : take (i + more) (q .fetched) ≡ take i (p .fetched) ++ take more (drop i (p .controller .buffer))
 
 -- the note of one byte
 abbrev noted : ℕ → Progress → Progress
-noted i p = record {
-  controller = withHand (p .controller) (p .controller .hand + 1);
-  over = p .over;
-  ending = p .ending;
-  count = p .count;
-  events = p .events;
-  fetched = set (p .fetched) i (place (p .controller) (p .controller .hand));
-}
+noted i p = made p (withHand (p .controller) (p .controller .hand + 1)) (p .count) (set (p .fetched) i (place (p .controller) (p .controller .hand)))
 
 fetch-one : (i : ℕ) (p : Progress) → sound (p .controller) ≡ true → among (kind (p .controller .turn)) wireTurns ≡ false → p .controller .hand < 68 → fetchOne i p ≡ noted i p
 unfolding fetchOne reads accepts
-fetch-one i p s w h = ap (λ (o : Outcome). after o) (data-read (p .controller) s w h)
-  where
-    after : Outcome → Progress
-    after o = record {
-      controller = o .next;
-      over = p .over;
-      ending = p .ending;
-      count = p .count;
-      events = p .events;
-      fetched = set (p .fetched) i (o .value);
-    }
+fetch-one i p s w h = ap (λ (o : Outcome). made p (o .next) (p .count) (set (p .fetched) i (o .value))) (data-read (p .controller) s w h)
 
 pub fetch-all : (more i : ℕ) (p : Progress) → sound (p .controller) ≡ true → among (kind (p .controller .turn)) wireTurns ≡ false → p .controller .hand ≡ i → i + more ≤ 68 → length (p .controller .buffer) ≡ 68 → length (p .fetched) ≡ 68 → Fetched more i p (fetch more i p)
 unfolding fetch fetchOne
 fetch-all zero i p s w h b l f =
-    record { turn = refl; registers = refl; sound = s; places = l; notes = f; bytes = retake (p .fetched) (i + 0) i (omega arith) ∙ sym (append-nil _) }
+    record { turn = refl; registers = refl; sound = s; places = l; notes = f; over = refl; bytes = retake (p .fetched) (i + 0) i (omega arith) ∙ sym (append-nil _) }
 fetch-all (suc more) i p s w h b l f =
     let q = noted i p in
     let buffer = p .controller .buffer in
@@ -105,6 +90,7 @@ fetch-all (suc more) i p s w h b l f =
       sound = inner .sound;
       places = inner .places;
       notes = inner .notes;
+      over = inner .over;
       bytes =
           retake (fetch more (i + 1) q .fetched) (i + suc more) ((i + 1) + more) (omega arith) ∙ inner .bytes ∙
           ap (λ (l : List ℕ). l ++ rest (i + 1)) (retake (q .fetched) (i + 1) (suc i) (omega arith) ∙ take-suc-set (p .fetched) i byte (omega arith)) ∙

@@ -18,7 +18,8 @@ use Rattle.controller.specs.Transfer.{cursor}
 use Rattle.controller.specs.declared.record.Controller.{Controller}
 use Rattle.answer.specs.Ending.{numberOf, besideOf}
 use Rattle.driver.specs.Run.{Run, closes, breaks, sending, taking, run}
-use Rattle.driver.specs.Service.{serve}
+use Rattle.driver.specs.Service.{workAt}
+use Rattle.driver.specs.Work.{serve}
 use Rattle.driver.specs.declared.job.Job.{Job}
 use Rattle.driver.specs.declared.progress.Progress.{Progress}
 use Rattle.noninterference.proofs.Blind.{Reading}
@@ -29,7 +30,8 @@ use Rattle.notation.proofs.Cases.{if-true, if-false, split}
 use Rattle.notation.specs.Choice.{if_then_else_, among}
 use Rattle.noninterference.proofs.Stage.{one-of, clash, limit, jobTurns, below-count, carriedAfter, sentAfter, Formed, Good, Stepped, ended, going}
 use Rattle.noninterference.proofs.Steps.{byte-count, event-step}
-use Rattle.noninterference.proofs.Twin.{Twin, flip, event-alike, twins, Same, taking-same, serve-same}
+use Rattle.noninterference.proofs.Twin.{Twin, Same}
+use Rattle.noninterference.proofs.TwoRuns.{RunSame, Kept, run-same as same-runs}
 
 -- one byte more was sent, or not
 sizes : (b : Bool) (sent value : ℕ) (later : List ℕ) → sent + length (if b then value ∷ later else later) ≡ elim b [ true ↦ suc sent | false ↦ sent ] + length later
@@ -51,48 +53,6 @@ carried-stop event argument rest e = if-true _ _ _ e
 carried-on : (event argument : ℕ) (rest : List ℕ) → eqb event 4 ≡ false → carried (event ∷ argument ∷ rest) ≡ (if eqb event 7 then argument ∷ carried rest else carried rest)
 unfolding carried
 carried-on event argument rest e = if-false _ _ _ e
-
--- What two runs have in common.
-pub record RunSame (r r′ : Run) : Type 0 where
-  pub twin : Twin (r .result .next) (r′ .result .next)
-  pub answer : r .result .answer ≡ r′ .result .answer
-  pub refused : r .result .refused ≡ r′ .result .refused
-  pub count : r .result .count ≡ r′ .result .count
-  pub events : r .result .events ≡ r′ .result .events
-  pub sent : r .sent ≡ r′ .sent
-
-closes-same : (p p′ : Progress) → Same p p′ → RunSame (closes p) (closes p′)
-unfolding closes
-closes-same p p′ s =
-    record { twin = s .twin; answer = ap numberOf (s .ending); refused = ap besideOf (s .ending); count = s .count; events = s .events; sent = refl }
-
-breaks-same : (p p′ : Progress) (answer refused refused′ : ℕ) → refused ≡ refused′ → Same p p′ → RunSame (breaks p answer refused) (breaks p′ answer refused′)
-unfolding breaks
-breaks-same p p′ answer refused refused′ e s =
-    record { twin = s .twin; answer = refl; refused = e; count = refl; events = s .events; sent = refl }
-
-sending-same : (event value value′ : ℕ) (r r′ : Run) → value ≡ value′ → RunSame r r′ → RunSame (sending event value r) (sending event value′ r′)
-unfolding sending
-sending-same event value value′ r r′ e s =
-    record {
-      twin = s .twin;
-      answer = s .answer;
-      refused = s .refused;
-      count = s .count;
-      events = s .events;
-      sent =
-          ap (λ (v : ℕ). if eqb event 6 then v ∷ (r .sent) else r .sent) e ∙
-          ap (λ (l : List ℕ). if eqb event 6 then value′ ∷ l else l) (s .sent);
-    }
-
--- the same test on both sides
-both : (b : Bool) (x x′ y y′ : Run) → (b ≡ true → RunSame x x′) → (b ≡ false → RunSame y y′) → RunSame (if b then x else y) (if b then x′ else y′)
-unfolding if_then_else_
-both true x x′ y y′ f g = f refl
-both false x x′ y y′ f g = g refl
-
-choose : (b b′ : Bool) (x x′ y y′ : Run) → b ≡ b′ → (b ≡ true → RunSame x x′) → (b ≡ false → RunSame y y′) → RunSame (if b then x else y) (if b′ then x′ else y′)
-choose b b′ x x′ y y′ e f g = subst (λ (z : Bool). RunSame (if b then x else y) (if z then x′ else y′)) e (both b x x′ y y′ f g)
 
 module _ (job : Job) (payload : List ℕ) (form : Formed job payload) where
   -- What holds of a single run from here on.
@@ -130,7 +90,7 @@ module _ (job : Job) (payload : List ℕ) (form : Formed job payload) where
       }
 
   -- a pair that was taken, with what the rest of the script gives
-  taken : (before : List ℕ) (sent event argument : ℕ) (rest : List ℕ) (value : ℕ) (q : Progress) → Stepped job payload before sent event argument q → ((before′ : List ℕ) (sent′ : ℕ) → Good job payload before′ sent′ q → RunFacts before′ sent′ rest (run job payload q rest)) → RunFacts before sent (event ∷ argument ∷ rest) (sending event value (if q .over then closes q else run job payload q rest))
+  taken : (before : List ℕ) (sent event argument : ℕ) (rest : List ℕ) (value : ℕ) (q : Progress) → Stepped job payload before sent event argument q → ((before′ : List ℕ) (sent′ : ℕ) → Good job payload before′ sent′ q → RunFacts before′ sent′ rest (run (workAt job payload) q rest)) → RunFacts before sent (event ∷ argument ∷ rest) (sending event value (if q .over then closes q else run (workAt job payload) q rest))
   taken before sent event argument rest value q (ended o c b) later =
       subst (λ (r : Run). RunFacts before sent (event ∷ argument ∷ rest) (sending event value r)) (sym (if-true (q .over) _ _ o))
       (over-facts before sent event argument rest value q c b)
@@ -139,12 +99,12 @@ module _ (job : Job) (payload : List ℕ) (form : Formed job payload) where
       (on-facts before sent event argument rest value _ k (later _ _ g))
 
   -- an accepted pair, by the invariant
-  stepped : (before : List ℕ) (sent event argument : ℕ) (p : Progress) → Good job payload before sent p → eqb (eventOf (p .controller) event argument .refused) 0 ≡ true → Stepped job payload before sent event argument (serve job payload event (taking p (eventOf (p .controller) event argument .next)))
+  stepped : (before : List ℕ) (sent event argument : ℕ) (p : Progress) → Good job payload before sent p → eqb (eventOf (p .controller) event argument .refused) 0 ≡ true → Stepped job payload before sent event argument (serve (workAt job payload) event (taking p (eventOf (p .controller) event argument .next)))
   stepped before sent event argument p g e =
       event-step job payload form before sent p g event argument .step (event-stays-sound (p .controller) event argument (g .basic .sound)) (eqb-true _ _ e)
 
   -- Every run: a finished read has read back what the bus carried, and no more bytes are sent than the out record holds.
-  pub run-facts : (script : List ℕ) (before : List ℕ) (sent : ℕ) (p : Progress) → Good job payload before sent p → RunFacts before sent script (run job payload p script)
+  pub run-facts : (script : List ℕ) (before : List ℕ) (sent : ℕ) (p : Progress) → Good job payload before sent p → RunFacts before sent script (run (workAt job payload) p script)
   unfolding run
   run-facts [] before sent p g = broke before sent [] p 26 0 (g .bound)
   run-facts (event ∷ []) before sent p g = broke before sent (event ∷ []) p 26 0 (g .bound)
@@ -190,19 +150,22 @@ module _ (job : Job) (payload : List ℕ) (form : Formed job payload) where
   goes-on before sent event argument q o (ended o′ c b) = absurd (true≢false (sym o′ ∙ o))
   goes-on before sent event argument q o (going k g) = g
 
+  -- somewhere in the job
+  record Amid (p : Progress) : Type 0 where
+    before : List ℕ
+    sent : ℕ
+    good : Good job payload before sent p
+
+  kept : Kept (workAt job payload) Amid
+  kept = record {
+    keeps = λ p event argument h ok o. record {
+      before = carriedAfter event argument (h .before);
+      sent = sentAfter event (h .sent);
+      good = goes-on (h .before) (h .sent) event argument _ o (stepped (h .before) (h .sent) event argument p (h .good) ok);
+    };
+    reading = λ p p′ h h′ t. reads-own (h .before) (h′ .before) (h .sent) (h′ .sent) p p′ (h .good) (h′ .good) t;
+  }
+
   -- Two runs over twins give the same.
-  pub run-same : (script : List ℕ) (before before′ : List ℕ) (sent sent′ : ℕ) (p p′ : Progress) → Good job payload before sent p → Good job payload before′ sent′ p′ → Same p p′ → RunSame (run job payload p script) (run job payload p′ script)
-  unfolding run
-  run-same [] before before′ sent sent′ p p′ g g′ s = breaks-same p p′ 27 0 0 refl s
-  run-same (event ∷ []) before before′ sent sent′ p p′ g g′ s = breaks-same p p′ 27 0 0 refl s
-  run-same (event ∷ argument ∷ rest) before before′ sent sent′ p p′ g g′ s =
-      let t = s .twin in
-      let e = event-alike _ _ event argument t (λ _. reads-own before before′ sent sent′ p p′ g g′ t) in
-      let e′ = event-alike _ _ event argument (flip t) (λ _. reads-own before′ before sent′ sent p′ p g′ g (flip t)) in
-      let q = serve-same job payload event _ _ (taking-same p p′ _ _ s (twins _ _ t e e′)) in
-      choose _ _ _ _ _ _ (ap (λ (k : ℕ). eqb k 0) (e .refused))
-      (λ ok. sending-same event _ _ _ _ (e .value)
-      (choose _ _ _ _ _ _ (q .over) (λ _. closes-same _ _ q)
-      (λ o. run-same rest _ _ _ _ _ _ (goes-on before sent event argument _ o (stepped before sent event argument p g ok))
-      (goes-on before′ sent′ event argument _ (sym (q .over) ∙ o) (stepped before′ sent′ event argument p′ g′ (ap (λ (k : ℕ). eqb k 0) (sym (e .refused)) ∙ ok))) q)))
-      (λ _. breaks-same p p′ 28 _ _ (e .refused) s)
+  pub run-same : (script : List ℕ) (p p′ : Progress) → Good job payload [] 0 p → Good job payload [] 0 p′ → Same p p′ → RunSame (run (workAt job payload) p script) (run (workAt job payload) p′ script)
+  run-same script p p′ g g′ s = same-runs (workAt job payload) Amid kept script p p′ (record { before = []; sent = 0; good = g }) (record { before = []; sent = 0; good = g′ }) s

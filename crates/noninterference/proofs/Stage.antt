@@ -19,7 +19,8 @@ use Rattle.controller.specs.Reply.{Outcome}
 use Rattle.controller.specs.declared.record.Controller.{Controller}
 use Rattle.answer.specs.Ending.{numberOf}
 use Rattle.driver.specs.Run.{taking}
-use Rattle.driver.specs.Service.{countOf, serve}
+use Rattle.driver.specs.Service.{countOf, workAt}
+use Rattle.driver.specs.Work.{serve}
 use Rattle.driver.specs.declared.job.Job.{Job}
 use Rattle.driver.specs.declared.progress.Progress.{Progress}
 use Rattle.notation.proofs.Among.{has, every, same, keys-in, within}
@@ -124,7 +125,7 @@ module _ (job : Job) (payload : List ℕ) where
 
   -- an accepted event does so
   pub record Step (carried : List ℕ) (sent : ℕ) (p : Progress) (number argument : ℕ) (o : Outcome) : Type 0 where
-    pub step : sound (o .next) ≡ true → o .refused ≡ 0 → Stepped carried sent number argument (serve job payload number (taking p (o .next)))
+    pub step : sound (o .next) ≡ true → o .refused ≡ 0 → Stepped carried sent number argument (serve (workAt job payload) number (taking p (o .next)))
 
   -- The invariant in each turn.
   pub good-waiting : (p : Progress) → Basic (p .controller) → p .over ≡ false → length (p .fetched) ≡ 68 → among (kind (p .controller .turn)) waitingTurns ≡ true → Good [] 0 p

@@ -34,7 +34,11 @@ use Rattle.controller.specs.declared.record.Controller.{Controller}
 use Rattle.controller.specs.declared.record.Registers.{Registers}
 use Rattle.answer.specs.Ending.{numberOf}
 use Rattle.driver.specs.Run.{taking}
-use Rattle.driver.specs.Service.{put, countOf, addresses, load, sends, fetch, movedCount, pointsBack, goesOn, stops, ends, finishes, stopsRead, atStatus, serve}
+use Rattle.block.specs.Block.{written}
+use Rattle.driver.proofs.Steps.{load-block}
+use Rattle.driver.specs.Service.{countOf, workAt}
+use Rattle.driver.specs.Work.{writes, ends, put, reads, made, fetch, does, doesAll, follows, performs, serve}
+use Rattle.controller.specs.Access.{readOf}
 use Rattle.answer.specs.declared.ending.Ending.the-variants as ending
 use Rattle.answer.specs.declared.ending.Ending.{Ending}
 use Rattle.driver.specs.declared.job.Job.{Job}
@@ -43,7 +47,7 @@ use Rattle.laws.proofs.Addresses.{direction-back, silent-without-aa}
 use Rattle.notation.proofs.Among.{has, every, same, among-has, within}
 use Rattle.notation.proofs.Cases.{if-true, if-false, and-left, and-right, and-no-right, or-false, or-left-off, or-right-off, split}
 use Rattle.notation.specs.Choice.{if_then_else_, _and_, _or_, among}
-use Rattle.noninterference.proofs.Accesses.{controlledTo, control-written, dataWritten, data-written, pointer-written, status-read}
+use Rattle.noninterference.proofs.Accesses.{controlledTo, control-written, dataWritten, data-written, pointer-written, status-read, count-read}
 use Rattle.noninterference.proofs.Moves.{load-all, fetch-all, put-sound, retake}
 use Rattle.noninterference.proofs.Stage.{apart, clash, write-no-read, limit, limit-low, waitingTurns, jobTurns, below-count, carriedAfter, sentAfter, Formed, Good, Stepped, ended, going, Step, good-waiting, good-addressing, good-sending, good-receiving, good-stopping}
 
@@ -51,11 +55,40 @@ use Rattle.noninterference.proofs.Stage.{apart, clash, write-no-read, l
 abbrev hosted : Controller → ℕ → Controller
 hosted c status = withHand (withTurn c (turn.Host status Stop)) 0
 
+-- the work of the job's table at a status, and what it comes to
+abbrev atStatus : Job → List ℕ → ℕ → Progress → Progress
+atStatus job payload status q = performs (workAt job payload status (q .count)) q
+
+abbrev goesOn : Progress → Controller → Progress
+goesOn q c = made q c (q .count) (q .fetched)
+
+abbrev addresses : Job → Controller → Controller
+addresses job c = put (put c 1 (byteOf (job .address) (job .direction) .0)) 3 0x40
+
+abbrev sends : Job → List ℕ → Controller → Controller
+sends job payload c = put (written (take (job .n) payload) c) 3 0x41
+
+abbrev movedCount : Controller → ℕ
+movedCount c = reads (put c 0 0x07) 2
+
+abbrev pointsBack : Controller → Controller
+pointsBack c = put ((readOf (put c 0 0x07) 2) .next) 0 0x00
+
+abbrev stops : Progress → Controller → Ending → ℕ → Progress
+stops q c e count = record {
+  controller = put c 3 0x50;
+  over = q .over;
+  ending = e;
+  count = count;
+  events = q .events;
+  fetched = q .fetched;
+}
+
 -- the driver's work by the status, after a pair that is neither own STOP nor a reset
-serve-status : (job : Job) (payload : List ℕ) (p : Progress) (d : Controller) (number : ℕ) → eqb number 14 ≡ false → eqb number 4 ≡ false → sound d ≡ true → serve job payload number (taking p d) ≡ atStatus job payload (statusOf (d .turn)) (taking p d)
+serve-status : (job : Job) (payload : List ℕ) (p : Progress) (d : Controller) (number : ℕ) → eqb number 14 ≡ false → eqb number 4 ≡ false → sound d ≡ true → serve (workAt job payload) number (taking p d) ≡ (if eqb (statusOf (d .turn)) 0xF8 then taking p d else atStatus job payload (statusOf (d .turn)) (taking p d))
 unfolding serve taking
 serve-status job payload p d number h k s =
-    if-false _ _ _ h ∙ if-false _ _ _ k ∙ ap (λ (x : ℕ). atStatus job payload x (taking p d)) (status-read d s)
+    if-false _ _ _ h ∙ if-false _ _ _ k ∙ ap (λ (x : ℕ). if eqb x 0xF8 then taking p d else atStatus job payload x (taking p d)) (status-read d s)
 
 -- I2CCOUNT as the driver sets it: BC is n, and LB is set for a read
 count-below : (d : Direction) (n : ℕ) → n ≤ 68 → countOf d n % 128 ≡ n
@@ -80,25 +113,25 @@ module _ (job : Job) (payload : List ℕ) (form : Formed job payload) (carried :
       never k e = omega (arith, e)
 
   -- an event that gives a status
-  hosting : (number argument : ℕ) (c : Controller) (status value : ℕ) → eqb number 14 ≡ false → eqb number 4 ≡ false → (sound (hosted c status) ≡ true → Stepped job payload carried sent number argument (atStatus job payload status (taking p (hosted c status)))) → S number argument (gives c status value)
+  hosting : (number argument : ℕ) (c : Controller) (status value : ℕ) → eqb status 0xF8 ≡ false → eqb number 14 ≡ false → eqb number 4 ≡ false → (sound (hosted c status) ≡ true → Stepped job payload carried sent number argument (atStatus job payload status (taking p (hosted c status)))) → S number argument (gives c status value)
   unfolding interruptsAt accepts statusOf
-  hosting number argument c status value h k f =
-      record { step = λ s r. subst (Stepped job payload carried sent number argument) (sym (serve-status job payload p (hosted c status) number h k s)) (f s) }
+  hosting number argument c status value n h k f =
+      record { step = λ s r. subst (Stepped job payload carried sent number argument) (sym (serve-status job payload p (hosted c status) number h k s ∙ if-false _ _ _ n)) (f s) }
 
   -- an event that leaves the status at F8h: the driver waits
   idling : (number argument : ℕ) (d : Controller) (value : ℕ) → eqb number 14 ≡ false → eqb number 4 ≡ false → statusOf (d .turn) ≡ 0xF8 → (sound d ≡ true → Good job payload (carriedAfter number argument carried) (sentAfter number sent) (taking p d)) → S number argument (accepts d value)
-  unfolding accepts atStatus among if_then_else_
+  unfolding accepts
   idling number argument d value h k t f =
       record {
         step = λ s r.
             subst (Stepped job payload carried sent number argument)
-            (sym (serve-status job payload p d number h k s ∙ ap (λ (x : ℕ). atStatus job payload x (taking p d)) t)) (going k (f s));
+            (sym (serve-status job payload p d number h k s ∙ if-true _ _ _ (ap (λ (x : ℕ). eqb x 0xF8) t))) (going k (f s));
       }
 
   -- a fault, lost arbitration, a reset: the job is over, and not as done
-  broken : (number argument : ℕ) (e : Ending) → (numberOf e ≡ 0 → ⊥) → eqb number 6 ≡ false → (q : Progress) (c : Controller) → Stepped job payload carried sent number argument (ends q c e)
-  unfolding ends
-  broken number argument e never n q c =
+  broken : (number argument : ℕ) (e : Ending) → (numberOf e ≡ 0 → ⊥) → eqb number 6 ≡ false → (q : Progress) → Stepped job payload carried sent number argument (follows (ends e) q)
+  unfolding follows
+  broken number argument e never n q =
       ended refl (λ z. absurd (never z))
       (subst (λ (b : Bool). elim b [ true ↦ suc sent | false ↦ sent ] ≤ limit (job .direction) (job .n)) (sym n) (g .bound))
 
@@ -110,43 +143,43 @@ module _ (job : Job) (payload : List ℕ) (form : Formed job payload) (carried :
 
   -- 14: the reset
   reset-pin : (argument : ℕ) → S 14 argument (accepts (reset (p .controller)) 0)
-  unfolding accepts serve if_then_else_
-  reset-pin argument = record { step = λ s r. broken 14 argument ending.Reset (λ e. omega (arith, e)) refl _ _ }
+  unfolding accepts serve follows if_then_else_
+  reset-pin argument = record { step = λ s r. broken 14 argument ending.Reset (λ e. omega (arith, e)) refl (taking p (reset (p .controller))) }
 
   at-lost : (number argument : ℕ) → eqb number 6 ≡ false → (q : Progress) → Stepped job payload carried sent number argument (atStatus job payload 0x38 q)
-  unfolding atStatus among if_then_else_
-  at-lost number argument n q = broken number argument ending.Lost lost-no-done n q _
+  unfolding workAt performs doesAll does among if_then_else_
+  at-lost number argument n q = broken number argument ending.Lost lost-no-done n (goesOn q (put (q .controller) 3 0x40))
 
   at-00 : (number argument : ℕ) → eqb number 6 ≡ false → (q : Progress) → Stepped job payload carried sent number argument (atStatus job payload 0x00 q)
-  unfolding atStatus among if_then_else_
-  at-00 number argument n q = broken number argument ending.Fault fault-no-done n q _
+  unfolding workAt performs doesAll among if_then_else_
+  at-00 number argument n q = broken number argument ending.Fault fault-no-done n q
 
   at-70 : (number argument : ℕ) → eqb number 6 ≡ false → (q : Progress) → Stepped job payload carried sent number argument (atStatus job payload 0x70 q)
-  unfolding atStatus among if_then_else_
-  at-70 number argument n q = broken number argument ending.Fault fault-no-done n q _
+  unfolding workAt performs doesAll among if_then_else_
+  at-70 number argument n q = broken number argument ending.Fault fault-no-done n q
 
   at-78 : (number argument : ℕ) → eqb number 6 ≡ false → (q : Progress) → Stepped job payload carried sent number argument (atStatus job payload 0x78 q)
-  unfolding atStatus among if_then_else_
-  at-78 number argument n q = broken number argument ending.Fault fault-no-done n q _
+  unfolding workAt performs doesAll among if_then_else_
+  at-78 number argument n q = broken number argument ending.Fault fault-no-done n q
 
   -- 9: lost in a data byte
   data-lost : (argument : ℕ) → S 9 argument (dataLost (p .controller))
   unfolding dataLost
   data-lost argument =
-      split (S 9 argument) _ _ _ (λ t. hosting 9 argument _ 0x38 0 refl refl (λ s. at-lost 9 argument refl _)) (λ t. refusing 9 argument 7)
+      split (S 9 argument) _ _ _ (λ t. hosting 9 argument _ 0x38 0 refl refl refl (λ s. at-lost 9 argument refl _)) (λ t. refusing 9 argument 7)
 
   -- 11: SDA held
   data-held : (argument : ℕ) → S 11 argument (dataHeld (p .controller))
   unfolding dataHeld
   data-held argument =
-      split (S 11 argument) _ _ _ (λ t. hosting 11 argument _ 0x70 0 refl refl (λ s. at-70 11 argument refl _)) (λ t. refusing 11 argument 7)
+      split (S 11 argument) _ _ _ (λ t. hosting 11 argument _ 0x70 0 refl refl refl (λ s. at-70 11 argument refl _)) (λ t. refusing 11 argument 7)
 
   -- 12: SCL held
   clock-held : (argument : ℕ) → S 12 argument (clockHeld (p .controller))
   unfolding clockHeld
   clock-held argument =
       split (S 12 argument) _ _ _ (λ t. refusing 12 argument 7)
-      (λ t. split (S 12 argument) _ _ _ (λ u. hosting 12 argument _ 0x78 0 refl refl (λ s. at-78 12 argument refl _)) (λ u. refusing 12 argument 7))
+      (λ t. split (S 12 argument) _ _ _ (λ u. hosting 12 argument _ 0x78 0 refl refl refl (λ s. at-78 12 argument refl _)) (λ u. refusing 12 argument 7))
 
   -- with AA 0 no address byte matches
   no-match : (byte : ℕ) → matches (p .controller) byte ≡ Nothing
@@ -158,7 +191,7 @@ module _ (job : Job) (payload : List ℕ) (form : Formed job payload) (carried :
   unfolding outbid
   outbid-step argument =
       subst (λ (m : Match). S 8 argument (outbid (p .controller) m)) (sym (no-match argument))
-      (hosting 8 argument _ 0x38 1 refl refl (λ s. at-lost 8 argument refl _))
+      (hosting 8 argument _ 0x38 1 refl refl refl (λ s. at-lost 8 argument refl _))
 
   address-lost : (argument : ℕ) → S 8 argument (addressLost (p .controller) argument)
   unfolding addressLost
@@ -235,14 +268,14 @@ module _ (job : Job) (payload : List ℕ) (form : Formed job payload) (carried :
   illegal-edge : (argument : ℕ) → S 10 argument (illegalEdge (p .controller))
   unfolding illegalEdge
   illegal-edge argument =
-      split (S 10 argument) _ _ _ (λ t. hosting 10 argument _ 0x00 0 refl refl (λ s. at-00 10 argument refl _))
+      split (S 10 argument) _ _ _ (λ t. hosting 10 argument _ 0x00 0 refl refl refl (λ s. at-00 10 argument refl _))
       (λ t. split (S 10 argument) _ _ _
       (λ u. idling 10 argument (p .controller) 0 refl refl (status-idle _ (apart _ waitingTurns (host ∷ []) tt u)) (λ s. stay (p .controller .turn) u u s))
       (λ u. refusing 10 argument 7))
 
   -- 4: own STOP, the one event that finishes a job
   finishing : (argument : ℕ) (d : Controller) → among (kind (p .controller .turn)) (stopping ∷ []) ≡ true → S 4 argument (waitsFor d turn.Free 0)
-  unfolding waitsFor accepts serve finishes taking if_then_else_
+  unfolding waitsFor accepts serve follows taking if_then_else_
   finishing argument d t = record { step = λ s r. ended refl (λ z rd. (refl, g .stopped t z rd, g .notes)) (g .bound) }
 
   own-stop : (argument : ℕ) → S 4 argument (ownStop (p .controller))
@@ -251,7 +284,7 @@ module _ (job : Job) (payload : List ℕ) (form : Formed job payload) (carried :
 
   -- 08h: the address byte is put at place 0, and the driver waits in Address
   addresses-to : (h : Controller) → sound h ≡ true → h .turn ≡ turn.Host 0x08 Stop → h .hand ≡ 0 → addresses job h ≡ controlledTo (dataWritten h (byteOf (job .address) (job .direction) .0)) (flagsOf 0x40) turn.Address
-  unfolding addresses kind statusOf among response respondsAt flagsOf badCount if_then_else_ _and_
+  unfolding kind statusOf among response respondsAt flagsOf badCount if_then_else_ _and_
   addresses-to h s t z =
       let x = byteOf (job .address) (job .direction) .0 in
       let e = data-written h x s (ap (λ (u : Turn). among (kind u) wireTurns) t) (omega (arith, z)) in
@@ -259,14 +292,13 @@ module _ (job : Job) (payload : List ℕ) (form : Formed job payload) (carried :
       control-written (dataWritten h x) 0x40 (turn.Host 0x08 Stop) turn.Address (subst (λ d. sound d ≡ true) e (put-sound h 1 x s)) t refl refl refl refl refl
 
   addresses-sound : (h : Controller) → sound h ≡ true → sound (addresses job h) ≡ true
-  unfolding addresses
   addresses-sound h s = put-sound _ 3 0x40 (put-sound h 1 _ s)
 
   -- the START came: 08h
   started : (number argument : ℕ) → eqb number 14 ≡ false → eqb number 4 ≡ false → eqb number 7 ≡ false → eqb number 6 ≡ false → among (kind (p .controller .turn)) waitingTurns ≡ true → S number argument (gives (p .controller) 0x08 0)
-  unfolding atStatus taking goesOn kind keeps flagsOf if_then_else_
+  unfolding workAt performs doesAll does follows taking kind keeps flagsOf if_then_else_
   started number argument h k m n w =
-      hosting number argument (p .controller) 0x08 0 h k
+      hosting number argument (p .controller) 0x08 0 refl h k
       (λ s. let c = hosted (p .controller) 0x08 in
       let e = addresses-to c s refl refl in
       let x = byteOf (job .address) (job .direction) .0 in
@@ -279,7 +311,7 @@ module _ (job : Job) (payload : List ℕ) (form : Formed job payload) (carried :
         aa = refl;
         count = g .basic .count;
         places = length-set (p .controller .buffer) 0 x ∙ l;
-      }) refl (g .notes) (among-has address (address ∷ [])) refl (getD-set-same (p .controller .buffer) 0 x 0 (omega arith)))))))
+      }) (g .lasts) (g .notes) (among-has address (address ∷ [])) refl (getD-set-same (p .controller .buffer) 0 x 0 (omega arith)))))))
 
   -- 1: own START
   own-start : (argument : ℕ) → S 1 argument (ownStart (p .controller))
@@ -310,60 +342,46 @@ module _ (job : Job) (payload : List ℕ) (form : Formed job payload) (carried :
       and-no-right _ _ (and-no-right _ _ (or-false _ _ (ne-eqb (byteCount d) 0 (omega (arith, b, l))) (le-ltb 68 (byteCount d) (omega (arith, b, h)))))
 
   -- 50h at one of the end statuses: the driver waits for own STOP
-  stops-good : (carried′ : List ℕ) (sent′ : ℕ) (q : Progress) (h : Controller) (status : ℕ) (e : Ending) (count : ℕ) → sound h ≡ true → h .turn ≡ turn.Host status Stop → among status (0x00 ∷ 0x70 ∷ 0x78 ∷ []) ≡ false → respondsAt status Stop (flagsOf 0x50) ≡ Next turn.Stopping → h .registers .count ≡ countOf (job .direction) (job .n) → length (h .buffer) ≡ 68 → length (q .fetched) ≡ 68 → sent′ ≤ limit (job .direction) (job .n) → (numberOf e ≡ 0 → job .direction ≡ Read → take (job .n) (q .fetched) ≡ carried′) → Good job payload carried′ sent′ (stops q h e count)
-  unfolding stops kind statusOf edgeOf among response flagsOf keeps badCount if_then_else_ _and_
-  stops-good carried′ sent′ q h status e count s t l r n b f m z =
+  stops-good : (carried′ : List ℕ) (sent′ : ℕ) (q : Progress) (h : Controller) (status : ℕ) (e : Ending) (count : ℕ) → sound h ≡ true → h .turn ≡ turn.Host status Stop → among status (0x00 ∷ 0x70 ∷ 0x78 ∷ []) ≡ false → respondsAt status Stop (flagsOf 0x50) ≡ Next turn.Stopping → h .registers .count ≡ countOf (job .direction) (job .n) → length (h .buffer) ≡ 68 → q .over ≡ false → length (q .fetched) ≡ 68 → sent′ ≤ limit (job .direction) (job .n) → (numberOf e ≡ 0 → job .direction ≡ Read → take (job .n) (q .fetched) ≡ carried′) → Good job payload carried′ sent′ (stops q h e count)
+  unfolding kind statusOf edgeOf among response flagsOf keeps badCount if_then_else_ _and_
+  stops-good carried′ sent′ q h status e count s t l r n b o f m z =
       let eq = control-written h 0x50 (turn.Host status Stop) turn.Stopping s t refl l refl r refl in
       let still = subst (λ (d : Controller). sound d ≡ true) eq (put-sound h 3 0x50 s) in
       subst (λ (d : Controller). Good job payload carried′ sent′ (record {
         controller = d;
-        over = false;
+        over = q .over;
         ending = e;
         count = count;
         events = q .events;
         fetched = q .fetched;
       })) (sym eq)
-      (good-stopping job payload carried′ sent′ _ (record { sound = still; aa = refl; count = n; places = b }) refl f m (among-has stopping (stopping ∷ [])) z)
+      (good-stopping job payload carried′ sent′ _ (record { sound = still; aa = refl; count = n; places = b }) o f m (among-has stopping (stopping ∷ [])) z)
 
   -- 18h: the data are loaded, and the driver waits in Send
-  sends-good : (carried′ : List ℕ) (q : Progress) (h : Controller) → job .direction ≡ Write → sound h ≡ true → h .turn ≡ turn.Host 0x18 Stop → h .hand ≡ 0 → h .registers .count ≡ countOf (job .direction) (job .n) → length (h .buffer) ≡ 68 → length (q .fetched) ≡ 68 → Good job payload carried′ 1 (goesOn q (sends job payload h))
-  unfolding goesOn sends kind statusOf edgeOf among response respondsAt endsAt flagsOf keeps if_then_else_ _and_
-  sends-good carried′ q h w s t z n b f =
+  sends-good : (carried′ : List ℕ) (q : Progress) (h : Controller) → job .direction ≡ Write → sound h ≡ true → h .turn ≡ turn.Host 0x18 Stop → h .hand ≡ 0 → h .registers .count ≡ countOf (job .direction) (job .n) → length (h .buffer) ≡ 68 → q .over ≡ false → length (q .fetched) ≡ 68 → Good job payload carried′ 1 (goesOn q (sends job payload h))
+  unfolding kind statusOf edgeOf among response respondsAt endsAt flagsOf keeps if_then_else_ _and_
+  sends-good carried′ q h w s t z n b o f =
       let xs = take (job .n) payload in
       let size : length xs ≡ job .n = length-take-le (job .n) payload (form .given w) in
       let high = form .high in
-      let d = load xs h in
+      let d = written xs h in
       let loaded = load-all xs h s (ap (λ (u : Turn). among (kind u) wireTurns) t) (omega (arith, size, z, high)) b in
       let eq = control-written d 0x41 (turn.Host 0x18 Stop) turn.Send (loaded .sound) (loaded .turn ∙ t) refl refl refl refl (fair-count d _ _ (ap (λ (r : Registers). r .count) (loaded .registers) ∙ n)) in
       let still = subst (λ (y : Controller). sound y ≡ true) eq (put-sound d 3 0x41 (loaded .sound)) in
-      subst (λ (y : Controller). Good job payload carried′ 1 (record {
-        controller = y;
-        over = false;
-        ending = q .ending;
-        count = q .count;
-        events = q .events;
-        fetched = q .fetched;
-      })) (sym eq)
+      subst (λ (y : Controller). Good job payload carried′ 1 (goesOn q y)) (sym eq)
       (good-sending job payload carried′ 1 _
       (record { sound = still; aa = refl; count = ap (λ (r : Registers). r .count) (loaded .registers) ∙ n; places = loaded .places })
-      refl f (limit-low (job .direction) (job .n)) (among-has send (send ∷ [])) refl w
+      o f (limit-low (job .direction) (job .n)) (among-has send (send ∷ [])) refl w
       (retake (d .buffer) (job .n) (h .hand + length xs) (omega (arith, size, z)) ∙ loaded .bytes ∙ ap (λ (k : ℕ). take k (h .buffer) ++ xs) z) refl)
 
   -- 40h: the driver waits in Receive
-  receives-good : (q : Progress) (h : Controller) → job .direction ≡ Read → sound h ≡ true → h .turn ≡ turn.Host 0x40 Stop → h .registers .count ≡ countOf (job .direction) (job .n) → length (h .buffer) ≡ 68 → length (q .fetched) ≡ 68 → Good job payload [] 1 (goesOn q (put h 3 0x41))
-  unfolding goesOn kind statusOf edgeOf among response respondsAt flagsOf keeps if_then_else_ _and_ _or_
-  receives-good q h r s t n b f =
+  receives-good : (q : Progress) (h : Controller) → job .direction ≡ Read → sound h ≡ true → h .turn ≡ turn.Host 0x40 Stop → h .registers .count ≡ countOf (job .direction) (job .n) → length (h .buffer) ≡ 68 → q .over ≡ false → length (q .fetched) ≡ 68 → Good job payload [] 1 (goesOn q (put h 3 0x41))
+  unfolding kind statusOf edgeOf among response respondsAt flagsOf keeps if_then_else_ _and_ _or_
+  receives-good q h r s t n b o f =
       let eq = control-written h 0x41 (turn.Host 0x40 Stop) turn.Receive s t refl refl refl refl (fair-count h _ _ n) in
       let still = subst (λ (y : Controller). sound y ≡ true) eq (put-sound h 3 0x41 s) in
-      subst (λ (y : Controller). Good job payload [] 1 (record {
-        controller = y;
-        over = false;
-        ending = q .ending;
-        count = q .count;
-        events = q .events;
-        fetched = q .fetched;
-      })) (sym eq)
-      (good-receiving job payload [] _ (record { sound = still; aa = refl; count = n; places = b }) refl f (among-has receive (receive ∷ [])) refl r refl)
+      subst (λ (y : Controller). Good job payload [] 1 (goesOn q y)) (sym eq)
+      (good-receiving job payload [] _ (record { sound = still; aa = refl; count = n; places = b }) o f (among-has receive (receive ∷ [])) refl r refl)
 
   regood : {l l′ : List ℕ} {n n′ : ℕ} {q : Progress} → l ≡ l′ → n ≡ n′ → Good job payload l n q → Good job payload l′ n′ q
   regood {l} {l′} {n} {n′} {q} e f h = subst (λ (k : ℕ). Good job payload l′ k q) f (subst (λ (m : List ℕ). Good job payload m n q) e h)
@@ -376,53 +394,57 @@ module _ (job : Job) (payload : List ℕ) (form : Formed job payload) (carried :
       omega (arith, e, l)
 
   -- 20h, 48h: the address was not acknowledged
-  nacked : (argument status value : ℕ) → among (kind (p .controller .turn)) (address ∷ []) ≡ true → among status (0x00 ∷ 0x70 ∷ 0x78 ∷ []) ≡ false → respondsAt status Stop (flagsOf 0x50) ≡ Next turn.Stopping → ((q : Progress) → atStatus job payload status q ≡ stops q (q .controller) ending.AddressNacked 0) → S 6 argument (gives (p .controller) status value)
+  nacked : (argument status value : ℕ) → eqb status 0xF8 ≡ false → among (kind (p .controller .turn)) (address ∷ []) ≡ true → among status (0x00 ∷ 0x70 ∷ 0x78 ∷ []) ≡ false → respondsAt status Stop (flagsOf 0x50) ≡ Next turn.Stopping → ((q : Progress) → atStatus job payload status q ≡ stops q (q .controller) ending.AddressNacked 0) → S 6 argument (gives (p .controller) status value)
   unfolding taking
-  nacked argument status value t l r e =
-      hosting 6 argument (p .controller) status value refl refl
+  nacked argument status value n t l r e =
+      hosting 6 argument (p .controller) status value n refl refl
       (λ s. let h = hosted (p .controller) status in
       subst (Stepped job payload carried sent 6 argument) (sym (e (taking p h)))
       (going refl
-      (stops-good carried (suc sent) (taking p h) h status ending.AddressNacked 0 s refl l r (g .basic .count) (g .basic .places) (g .notes) (first-sent t)
+      (stops-good carried (suc sent) (taking p h) h status ending.AddressNacked 0 s refl l r (g .basic .count) (g .basic .places) (g .lasts) (g .notes) (first-sent t)
       (λ z. absurd (nack-no-done z)))))
     where
       nack-no-done : numberOf ending.AddressNacked ≡ 0 → ⊥
       nack-no-done z = omega (arith, z)
 
   at-20 : (q : Progress) → atStatus job payload 0x20 q ≡ stops q (q .controller) ending.AddressNacked 0
-  unfolding atStatus among if_then_else_
+  unfolding workAt performs doesAll does follows among if_then_else_
   at-20 q = refl
 
   at-48 : (q : Progress) → atStatus job payload 0x48 q ≡ stops q (q .controller) ending.AddressNacked 0
-  unfolding atStatus among if_then_else_
+  unfolding workAt performs doesAll does follows among if_then_else_
   at-48 q = refl
+
+  at-18 : (q : Progress) → atStatus job payload 0x18 q ≡ goesOn q (sends job payload (q .controller))
+  unfolding workAt performs doesAll does follows among if_then_else_
+  at-18 q = load-block (take (job .n) payload) (writes 3 0x41 ∷ []) q
 
   -- 18h, 40h: it was
   acked-write : (argument value : ℕ) → among (kind (p .controller .turn)) (address ∷ []) ≡ true → job .direction ≡ Write → S 6 argument (gives (p .controller) 0x18 value)
-  unfolding atStatus taking if_then_else_
+  unfolding taking
   acked-write argument value t w =
-      hosting 6 argument (p .controller) 0x18 value refl refl
-      (λ s. going refl
-      (regood {l = carried} refl (ap suc (sym (g .early (within _ (address ∷ []) (free ∷ busy ∷ listen ∷ address ∷ []) tt t) .1)))
-      (sends-good carried (taking p (hosted (p .controller) 0x18)) (hosted (p .controller) 0x18) w s refl refl (g .basic .count) (g .basic .places) (g .notes))))
+      hosting 6 argument (p .controller) 0x18 value refl refl refl
+      (λ s. subst (Stepped job payload carried sent 6 argument) (sym (at-18 (taking p (hosted (p .controller) 0x18))))
+      (going refl (regood {l = carried} refl (ap suc (sym (g .early (within _ (address ∷ []) (free ∷ busy ∷ listen ∷ address ∷ []) tt t) .1)))
+      (sends-good carried (taking p (hosted (p .controller) 0x18)) (hosted (p .controller) 0x18) w s refl refl (g .basic .count) (g .basic .places) (g .lasts) (g .notes)))))
 
   acked-read : (argument value : ℕ) → among (kind (p .controller .turn)) (address ∷ []) ≡ true → job .direction ≡ Read → S 6 argument (gives (p .controller) 0x40 value)
-  unfolding atStatus taking if_then_else_
+  unfolding workAt performs doesAll does follows taking if_then_else_
   acked-read argument value t r =
       let e = g .early (within _ (address ∷ []) (free ∷ busy ∷ listen ∷ address ∷ []) tt t) in
-      hosting 6 argument (p .controller) 0x40 value refl refl
+      hosting 6 argument (p .controller) 0x40 value refl refl refl
       (λ s. going refl
       (regood (sym (e .0)) (ap suc (sym (e .1)))
-      (receives-good (taking p (hosted (p .controller) 0x40)) (hosted (p .controller) 0x40) r s refl (g .basic .count) (g .basic .places) (g .notes))))
+      (receives-good (taking p (hosted (p .controller) 0x40)) (hosted (p .controller) 0x40) r s refl (g .basic .count) (g .basic .places) (g .lasts) (g .notes))))
 
   -- 6, in Address: the address byte out
   address-out : (argument value : ℕ) → among (kind (p .controller .turn)) (address ∷ []) ≡ true → (d : Direction) → job .direction ≡ d → S 6 argument (gives (p .controller) (addressStatus d argument) value)
   unfolding addressStatus respondsAt endsAt among flagsOf if_then_else_
   address-out argument value t Write w =
-      split (λ (x : ℕ). S 6 argument (gives (p .controller) x value)) (eqb argument 1) 0x20 0x18 (λ _. nacked argument 0x20 value t refl refl at-20)
+      split (λ (x : ℕ). S 6 argument (gives (p .controller) x value)) (eqb argument 1) 0x20 0x18 (λ _. nacked argument 0x20 value refl t refl refl at-20)
       (λ _. acked-write argument value t w)
   address-out argument value t Read r =
-      split (λ (x : ℕ). S 6 argument (gives (p .controller) x value)) (eqb argument 1) 0x48 0x40 (λ _. nacked argument 0x48 value t refl refl at-48)
+      split (λ (x : ℕ). S 6 argument (gives (p .controller) x value)) (eqb argument 1) 0x48 0x40 (λ _. nacked argument 0x48 value refl t refl refl at-48)
       (λ _. acked-read argument value t r)
 
   -- R of place 0 is the job's direction
@@ -432,22 +454,20 @@ module _ (job : Job) (payload : List ℕ) (form : Formed job payload) (carried :
 
   -- 30h: a data byte was not acknowledged
   points-back : (h : Controller) → sound h ≡ true → pointsBack h ≡ withArmed (withPointer h 0) false
-  unfolding pointsBack
   points-back h s =
       let e = pointer-written h 7 s in
       let still = subst (λ (d : Controller). sound d ≡ true) e (put-sound h 0 7 s) in
-      ap (λ (d : Controller). put d 0 0) e ∙ pointer-written _ 0 still
+      ap (λ (d : Controller). put d 0 0) (count-read (put h 0 7) ∙ e) ∙ pointer-written _ 0 still
 
   back-sound : (h : Controller) → sound h ≡ true → sound (pointsBack h) ≡ true
-  unfolding pointsBack
-  back-sound h s = put-sound _ 0 0 (put-sound h 0 7 s)
+  back-sound h s = put-sound _ 0 0 (subst (λ (d : Controller). sound d ≡ true) (sym (count-read (put h 0 7))) (put-sound h 0 7 s))
 
   at-30 : (q : Progress) → atStatus job payload 0x30 q ≡ stops q (pointsBack (q .controller)) ending.DataNacked (movedCount (q .controller))
-  unfolding atStatus among if_then_else_
+  unfolding workAt performs doesAll does follows among if_then_else_
   at-30 q = refl
 
   at-28 : (q : Progress) → atStatus job payload 0x28 q ≡ stops q (q .controller) ending.Done (job .n)
-  unfolding atStatus among if_then_else_
+  unfolding workAt performs doesAll does follows among if_then_else_
   at-28 q = refl
 
   module _ (t : among (kind (p .controller .turn)) (send ∷ []) ≡ true) where
@@ -463,14 +483,14 @@ module _ (job : Job) (payload : List ℕ) (form : Formed job payload) (carried :
     data-nacked : (argument value : ℕ) → S 6 argument (gives (counted (p .controller)) 0x30 value)
     unfolding taking respondsAt endsAt among flagsOf if_then_else_
     data-nacked argument value =
-        hosting 6 argument (counted (p .controller)) 0x30 value refl refl
+        hosting 6 argument (counted (p .controller)) 0x30 value refl refl refl
         (λ s. let h = hosted (counted (p .controller)) 0x30 in
         let e = points-back h s in
         subst (Stepped job payload carried sent 6 argument) (sym (at-30 (taking p h)))
         (going refl
         (stops-good carried (suc sent) (taking p h) (pointsBack h) 0x30 ending.DataNacked (movedCount h) (back-sound h s)
         (ap (λ (d : Controller). d .turn) e) refl refl (ap (λ (d : Controller). d .registers .count) e ∙ g .basic .count)
-        (ap (λ (d : Controller). length (d .buffer)) e ∙ g .basic .places) (g .notes) next-sent (λ z. absurd (nack-no-done z)))))
+        (ap (λ (d : Controller). length (d .buffer)) e ∙ g .basic .places) (g .lasts) (g .notes) next-sent (λ z. absurd (nack-no-done z)))))
       where
         nack-no-done : numberOf ending.DataNacked ≡ 0 → ⊥
         nack-no-done z = omega (arith, z)
@@ -478,11 +498,11 @@ module _ (job : Job) (payload : List ℕ) (form : Formed job payload) (carried :
     data-done : (argument value : ℕ) → S 6 argument (gives (counted (p .controller)) 0x28 value)
     unfolding taking respondsAt endsAt among flagsOf if_then_else_
     data-done argument value =
-        hosting 6 argument (counted (p .controller)) 0x28 value refl refl
+        hosting 6 argument (counted (p .controller)) 0x28 value refl refl refl
         (λ s. let h = hosted (counted (p .controller)) 0x28 in
         subst (Stepped job payload carried sent 6 argument) (sym (at-28 (taking p h)))
         (going refl
-        (stops-good carried (suc sent) (taking p h) h 0x28 ending.Done (job .n) s refl refl refl (g .basic .count) (g .basic .places) (g .notes) next-sent
+        (stops-good carried (suc sent) (taking p h) h 0x28 ending.Done (job .n) s refl refl refl (g .basic .count) (g .basic .places) (g .lasts) (g .notes) next-sent
         (λ z r. write-no-read (job .direction) (g .sending t .1) r))))
 
     data-goes-on : (argument value : ℕ) → S 6 argument (accepts (counted (p .controller)) value)
@@ -513,8 +533,12 @@ module _ (job : Job) (payload : List ℕ) (form : Formed job payload) (carried :
       (λ _. split (S 6 argument) _ _ _ (λ t. data-out t argument)
       (λ _. split (S 6 argument) _ _ _ (λ t. absurd (here (slaveSend ∷ []) tt t)) (λ _. refusing 6 argument 7)))
 
-  at-58 : (q : Progress) → atStatus job payload 0x58 q ≡ stopsRead job (fetch (job .n) 0 q)
-  unfolding atStatus among if_then_else_
+  -- n is noted, and n bytes read back
+  abbrev readBack : Progress → Progress
+  readBack q = fetch (job .n) 0 (made q (q .controller) (job .n) (q .fetched))
+
+  at-58 : (q : Progress) → atStatus job payload 0x58 q ≡ stops (readBack q) (readBack q .controller) ending.Done (readBack q .count)
+  unfolding workAt performs doesAll does follows among if_then_else_
   at-58 q = refl
 
   module _ (t : among (kind (p .controller .turn)) (receive ∷ []) ≡ true) where
@@ -549,19 +573,19 @@ module _ (job : Job) (payload : List ℕ) (form : Formed job payload) (carried :
 
     -- 58h: the bytes are read back, and the driver waits for own STOP
     data-last : (argument : ℕ) → isLast (p .controller) ≡ true → S 7 argument (gives (received (p .controller) argument) 0x58 1)
-    unfolding taking stopsRead received respondsAt endsAt among kind flagsOf if_then_else_
+    unfolding taking received respondsAt endsAt among kind flagsOf if_then_else_
     data-last argument e =
-        hosting 7 argument (received (p .controller) argument) 0x58 1 refl refl
+        hosting 7 argument (received (p .controller) argument) 0x58 1 refl refl refl
         (λ s. let h = hosted (received (p .controller) argument) 0x58 in
         let q = taking p h in
         let n = form .high in
-        let f = fetch-all (job .n) 0 q s refl refl (omega (arith, n)) (received-places argument) (g .notes) in
-        let r = fetch (job .n) 0 q in
+        let f = fetch-all (job .n) 0 (made q h (job .n) (p .fetched)) s refl refl (omega (arith, n)) (received-places argument) (g .notes) in
+        let r = readBack q in
         let back = retake (r .fetched) (job .n) (0 + job .n) (omega arith) ∙ f .bytes ∙ retake (h .buffer) (job .n) (p .controller .moved + 1) (sym (all-moved e)) ∙ more-carried argument in
         subst (Stepped job payload carried sent 7 argument) (sym (at-58 q))
         (going refl
-        (stops-good (carried ++ (argument ∷ [])) sent r (r .controller) 0x58 ending.Done (job .n) (f .sound) (f .turn) refl refl
-        (ap (λ (x : Registers). x .count) (f .registers) ∙ g .basic .count) (f .places) (f .notes) (g .bound) (λ z d. back))))
+        (stops-good (carried ++ (argument ∷ [])) sent r (r .controller) 0x58 ending.Done (r .count) (f .sound) (f .turn) refl refl
+        (ap (λ (x : Registers). x .count) (f .registers) ∙ g .basic .count) (f .places) (f .over ∙ g .lasts) (f .notes) (g .bound) (λ z d. back))))
 
     data-more : (argument : ℕ) → S 7 argument (accepts (received (p .controller) argument) 0)
     unfolding taking received

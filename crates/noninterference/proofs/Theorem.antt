@@ -27,7 +27,8 @@ use Rattle.controller.specs.Reply.{Outcome}
 use Rattle.controller.specs.declared.record.Controller.{Controller}
 use Rattle.driver.specs.Request.{badLength, lent, malformed, ready}
 use Rattle.driver.specs.Run.{Run, Report, run, starts, handsUp, reports, declines, jobOf}
-use Rattle.driver.specs.Service.{put, countOf, begins}
+use Rattle.driver.specs.Service.{countOf, begins, workAt}
+use Rattle.driver.specs.Work.{Access, put, does, doesAll}
 use Rattle.answer.specs.declared.ending.Ending.the-variants.{Unfinished}
 use Rattle.driver.specs.declared.job.Job.{Job}
 use Rattle.noninterference.proofs.Blind.{Blind}
@@ -37,9 +38,10 @@ use Rattle.notation.proofs.Cases.{if-true, if-false, and-true, and-left, and-ri
 use Rattle.notation.specs.Choice.{if_then_else_, _and_, _or_, among}
 use Rattle.noninterference.proofs.Accesses.{controlledTo, control-written, pointer-written, count-written}
 use Rattle.noninterference.proofs.Moves.{put-sound}
-use Rattle.noninterference.proofs.Runs.{RunSame, RunFacts, run-facts, run-same}
+use Rattle.noninterference.proofs.Runs.{RunFacts, run-facts, run-same}
+use Rattle.noninterference.proofs.TwoRuns.{RunSame}
 use Rattle.noninterference.proofs.Stage.{apart, Formed, Good, good-waiting, waitingTurns}
-use Rattle.noninterference.proofs.Twin.{Twin, flip, write-alike, event-alike, twins, begins-twin, Same}
+use Rattle.noninterference.proofs.Twin.{Twin, flip, write-alike, event-alike, twins, all-same, Same}
 
 -- a job that is not answered 21 is well formed
 enough : (d : Direction) (given room n : ℕ) → d ≡ Write → ltb (lent d given room) n ≡ false → n ≤ given
@@ -68,8 +70,11 @@ module _ (job : Job) (c : Controller) (s : sound c ≡ true) (f : among (kind (c
   abbrev counted : Controller
   counted = withArmed (withRegisters (withArmed (withPointer c 0) false) (withCount (c .registers) (countOf (job .direction) (job .n)))) false
 
-  begins-to : begins job c ≡ controlledTo counted (flagsOf 0x60) (c .turn)
-  unfolding begins flagsOf badCount _and_
+  abbrev begun-as : Controller
+  begun-as = put (put (put c 0 0x00) 2 (countOf (job .direction) (job .n))) 3 0x60
+
+  begins-to : begun-as ≡ controlledTo counted (flagsOf 0x60) (c .turn)
+  unfolding flagsOf badCount _and_
   begins-to =
       let off-wire = apart _ (free ∷ []) wireTurns tt f in
       let idle = status-idle (c .turn) (apart _ (free ∷ []) (host ∷ []) tt f) in
@@ -81,12 +86,11 @@ module _ (job : Job) (c : Controller) (s : sound c ≡ true) (f : among (kind (c
       control-written counted 0x60 (c .turn) (c .turn) s₂ refl off-wire
       (ap (λ (x : ℕ). among x (0x00 ∷ 0x70 ∷ 0x78 ∷ [])) idle ∙ among-has 0xF8 (0x00 ∷ 0x70 ∷ 0x78 ∷ [])) refl (free-stays (c .turn) (flagsOf 0x60) f) refl
 
-  begins-sound : sound (begins job c) ≡ true
-  unfolding begins
+  begins-sound : sound begun-as ≡ true
   begins-sound = put-sound _ 3 0x60 (put-sound _ 2 _ (put-sound c 0 0 s))
 
-  starts-good : (payload : List ℕ) → length (c .buffer) ≡ 68 → Good job payload [] 0 (starts job c)
-  unfolding starts keeps flagsOf
+  starts-good : (payload : List ℕ) → length (c .buffer) ≡ 68 → Good job payload [] 0 (starts (begins job) c)
+  unfolding starts doesAll does keeps flagsOf
   starts-good payload l =
       subst (λ (d : Controller). Good job payload [] 0 (record {
         controller = d;
@@ -100,9 +104,9 @@ module _ (job : Job) (c : Controller) (s : sound c ≡ true) (f : among (kind (c
       (record { sound = subst (λ (d : Controller). sound d ≡ true) begins-to begins-sound; aa = refl; count = refl; places = l })
       refl (length-replicate {A = ℕ} 68 0) (within _ (free ∷ []) waitingTurns tt f))
 
-starts-same : (job : Job) (c c′ : Controller) → Twin c c′ → Same (starts job c) (starts job c′)
+starts-same : (xs : List Access) (c c′ : Controller) → Twin c c′ → Same (starts xs c) (starts xs c′)
 unfolding starts
-starts-same job c c′ t = record { twin = begins-twin job c c′ t; over = refl; ending = refl; count = refl; events = refl }
+starts-same xs c c′ t = all-same xs _ _ (record { twin = t; over = refl; ending = refl; count = refl; events = refl })
 
 -- whether the controller is ready for a job does not depend on its buffer
 ready-same : (c c′ : Controller) → Twin c c′ → ready c ≡ ready c′
@@ -154,19 +158,19 @@ module _ (q : Request) (m : malformed (q .job) (length (q .payload)) (q .destina
   pub form : Formed (q .job) (q .payload)
   form = formed (q .job) (q .payload) (q .destinationLength) (q .outLength) (length (q .script)) m
 
-  begun : (c : Controller) → ready c ≡ true → length (c .buffer) ≡ 68 → Good (q .job) (q .payload) [] 0 (starts (q .job) c)
+  begun : (c : Controller) → ready c ≡ true → length (c .buffer) ≡ 68 → Good (q .job) (q .payload) [] 0 (starts (begins (q .job)) c)
   unfolding ready
   begun c r l = starts-good (q .job) c (and-left _ _ r) (and-left _ _ (and-right _ _ r)) (q .payload) l
 
   abbrev runs : Controller → Run
-  runs c = run (q .job) (q .payload) (starts (q .job) c) (q .script)
+  runs c = run (workAt (q .job) (q .payload)) (starts (begins (q .job)) c) (q .script)
 
   pub facts : (c : Controller) → ready c ≡ true → length (c .buffer) ≡ 68 → RunFacts (q .job) (q .payload) form [] 0 (q .script) (runs c)
   facts c r l = run-facts (q .job) (q .payload) form (q .script) [] 0 _ (begun c r l)
 
   run-alike : (c c′ : Controller) → Twin c c′ → ready c ≡ true → ready c′ ≡ true → ReportSame (reports (q .job) (runs c)) (reports (q .job) (runs c′))
   run-alike c c′ t r r′ =
-      let s = run-same (q .job) (q .payload) form (q .script) [] [] 0 0 _ _ (begun c r (t .places)) (begun c′ r′ (t .places′)) (starts-same (q .job) c c′ t) in
+      let s = run-same (q .job) (q .payload) form (q .script) _ _ (begun c r (t .places)) (begun c′ r′ (t .places′)) (starts-same (begins (q .job)) c c′ t) in
       reports-same (q .job) _ _ s
       (λ z d. facts c r (t .places) .carry z d .0 ∙ sym (facts c′ r′ (t .places′) .carry (sym (s .answer) ∙ z) d .0))
 

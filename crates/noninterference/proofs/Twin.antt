@@ -4,16 +4,15 @@ use mathlib.Core.List.{List, [], _∷_}
 use mathlib.Core.Path.{_≡_, refl, sym, ap, subst, _∙_}
 use Prim.Native.Nat.{ℕ, zero, suc, _+_}
 use lib.Dec.{eqb}
-use lib.ListN.{length, take}
+use lib.ListN.{length}
 use Rattle.controller.specs.Access.{readOf, writeOf}
 use Rattle.controller.specs.Event.{eventOf}
 use Rattle.controller.specs.Record.{withBuffer}
 use Rattle.controller.specs.Reply.{Outcome}
 use Rattle.controller.specs.declared.record.Controller.{Controller}
 use Rattle.driver.specs.Run.{taking}
-use Rattle.driver.specs.Service.{put, reads, begins, addresses, load, sends, fetchOne, fetch, movedCount, pointsBack, goesOn, stops, ends, finishes, stopsRead, atStatus, serve}
-use Rattle.answer.specs.declared.ending.Ending.{Ending}
-use Rattle.driver.specs.declared.job.Job.{Job}
+use Rattle.driver.specs.Work.{Access, writes, readsData, readsAll, readsCount, counts, Then, goesOn, awaits, ends, finishes, Work, Service, put, reads, made, fetchOne, fetch, does, doesAll, follows, performs, serve}
+use Rattle.answer.specs.declared.ending.Ending.the-variants.{Reset}
 use Rattle.driver.specs.declared.progress.Progress.{Progress}
 use Rattle.noninterference.proofs.Blind.{blank, Blind, Leaves, Reading, write-blind, event-blind, read-blind, fetch-blind}
 use Rattle.notation.specs.Choice.{if_then_else_, among}
@@ -59,31 +58,6 @@ pub reads-same : (c c′ : Controller) (register : ℕ) → Twin c c′ → eqb 
 unfolding reads
 reads-same c c′ register t e = read-alike c c′ register t e .value
 
-pub begins-twin : (job : Job) (c c′ : Controller) → Twin c c′ → Twin (begins job c) (begins job c′)
-unfolding begins
-begins-twin job c c′ t = put-twin _ _ 3 0x60 (put-twin _ _ 2 _ (put-twin c c′ 0 0x00 t))
-
-addresses-twin : (job : Job) (c c′ : Controller) → Twin c c′ → Twin (addresses job c) (addresses job c′)
-unfolding addresses
-addresses-twin job c c′ t = put-twin _ _ 3 0x40 (put-twin c c′ 1 _ t)
-
-load-twin : (xs : List ℕ) (c c′ : Controller) → Twin c c′ → Twin (load xs c) (load xs c′)
-unfolding load
-load-twin [] c c′ t = t
-load-twin (x ∷ xs) c c′ t = load-twin xs (put c 1 x) (put c′ 1 x) (put-twin c c′ 1 x t)
-
-sends-twin : (job : Job) (payload : List ℕ) (c c′ : Controller) → Twin c c′ → Twin (sends job payload c) (sends job payload c′)
-unfolding sends
-sends-twin job payload c c′ t = put-twin _ _ 3 0x41 (load-twin (take (job .n) payload) c c′ t)
-
-moved-same : (c c′ : Controller) → Twin c c′ → movedCount c ≡ movedCount c′
-unfolding movedCount
-moved-same c c′ t = reads-same _ _ 2 (put-twin c c′ 0 0x07 t) refl
-
-back-twin : (c c′ : Controller) → Twin c c′ → Twin (pointsBack c) (pointsBack c′)
-unfolding pointsBack
-back-twin c c′ t = put-twin _ _ 0 0x00 (put-twin c c′ 0 0x07 t)
-
 -- What the driver keeps, on both sides: all of it but the bytes read back.
 pub record Same (p p′ : Progress) : Type 0 where
   pub twin : Twin (p .controller) (p′ .controller)
@@ -97,21 +71,8 @@ unfolding taking
 taking-same p p′ c c′ s t =
     record { twin = t; over = s .over; ending = s .ending; count = s .count; events = ap (λ (n : ℕ). n + 1) (s .events) }
 
-going-same : (p p′ : Progress) (c c′ : Controller) → Same p p′ → Twin c c′ → Same (goesOn p c) (goesOn p′ c′)
-unfolding goesOn
-going-same p p′ c c′ s t = record { twin = t; over = refl; ending = s .ending; count = s .count; events = s .events }
-
-stops-same : (p p′ : Progress) (c c′ : Controller) (e : Ending) (n n′ : ℕ) → Same p p′ → Twin c c′ → n ≡ n′ → Same (stops p c e n) (stops p′ c′ e n′)
-unfolding stops
-stops-same p p′ c c′ e n n′ s t h = record { twin = put-twin c c′ 3 0x50 t; over = refl; ending = refl; count = h; events = s .events }
-
-ends-same : (p p′ : Progress) (c c′ : Controller) (e : Ending) → Same p p′ → Twin c c′ → Same (ends p c e) (ends p′ c′ e)
-unfolding ends
-ends-same p p′ c c′ e s t = record { twin = t; over = refl; ending = refl; count = refl; events = s .events }
-
-finishes-same : (p p′ : Progress) → Same p p′ → Same (finishes p) (finishes p′)
-unfolding finishes
-finishes-same p p′ s = record { twin = s .twin; over = refl; ending = s .ending; count = s .count; events = s .events }
+made-same : (p p′ : Progress) (c c′ : Controller) (n n′ : ℕ) (l l′ : List ℕ) → Same p p′ → Twin c c′ → n ≡ n′ → Same (made p c n l) (made p′ c′ n′ l′)
+made-same p p′ c c′ n n′ l l′ s t e = record { twin = t; over = s .over; ending = s .ending; count = e; events = s .events }
 
 fetch-one-same : (i : ℕ) (p p′ : Progress) → Same p p′ → Same (fetchOne i p) (fetchOne i p′)
 unfolding fetchOne
@@ -119,47 +80,52 @@ fetch-one-same i p p′ s =
     let t = s .twin in
     let l = fetch-alike _ _ t in
     let l′ = fetch-alike _ _ (flip t) in
-    record {
-      twin = record { rest = l .next; places = l .sized ∙ t .places; places′ = l′ .sized ∙ t .places′ };
-      over = s .over;
-      ending = s .ending;
-      count = s .count;
-      events = s .events;
-    }
+    made-same p p′ _ _ _ _ _ _ s (record { rest = l .next; places = l .sized ∙ t .places; places′ = l′ .sized ∙ t .places′ }) (s .count)
 
 fetch-same : (more i : ℕ) (p p′ : Progress) → Same p p′ → Same (fetch more i p) (fetch more i p′)
 unfolding fetch
 fetch-same zero i p p′ s = s
 fetch-same (suc more) i p p′ s = fetch-same more (i + 1) (fetchOne i p) (fetchOne i p′) (fetch-one-same i p p′ s)
 
-reading-same : (job : Job) (p p′ : Progress) → Same p p′ → Same (stopsRead job p) (stopsRead job p′)
-unfolding stopsRead
-reading-same job p p′ s = stops-same p p′ _ _ _ _ _ s (s .twin) refl
+-- any access, any list of them and any work, of whatever service
+does-same : (x : Access) (p p′ : Progress) → Same p p′ → Same (does x p) (does x p′)
+unfolding does
+does-same (writes register value) p p′ s = made-same p p′ _ _ _ _ _ _ s (put-twin _ _ register value (s .twin)) (s .count)
+does-same (readsData at) p p′ s = fetch-one-same at p p′ s
+does-same readsAll p p′ s = subst (λ (n : ℕ). Same (fetch (p .count) 0 p) (fetch n 0 p′)) (s .count) (fetch-same (p .count) 0 p p′ s)
+does-same readsCount p p′ s =
+    let t = s .twin in
+    made-same p p′ _ _ _ _ _ _ s (twins _ _ t (read-alike _ _ 2 t refl) (read-alike _ _ 2 (flip t) refl)) (reads-same _ _ 2 t refl)
+does-same (counts count) p p′ s = made-same p p′ _ _ _ _ _ _ s (s .twin) refl
+
+pub all-same : (xs : List Access) (p p′ : Progress) → Same p p′ → Same (doesAll xs p) (doesAll xs p′)
+unfolding doesAll
+all-same [] p p′ s = s
+all-same (x ∷ xs) p p′ s = all-same xs (does x p) (does x p′) (does-same x p p′ s)
+
+follows-same : (t : Then) (p p′ : Progress) → Same p p′ → Same (follows t p) (follows t p′)
+unfolding follows
+follows-same goesOn p p′ s = s
+follows-same (awaits ending) p p′ s = record { twin = s .twin; over = s .over; ending = refl; count = s .count; events = s .events }
+follows-same (ends ending) p p′ s = record { twin = s .twin; over = refl; ending = refl; count = refl; events = s .events }
+follows-same finishes p p′ s = record { twin = s .twin; over = refl; ending = s .ending; count = s .count; events = s .events }
+
+performs-same : (w : Work) (p p′ : Progress) → Same p p′ → Same (performs w p) (performs w p′)
+unfolding performs
+performs-same w p p′ s = follows-same (w .after) _ _ (all-same (w .accesses) p p′ s)
 
 either : (b : Bool) (p p′ q q′ : Progress) → Same p p′ → Same q q′ → Same (if b then p else q) (if b then p′ else q′)
 unfolding if_then_else_
 either true p p′ q q′ s t = s
 either false p p′ q q′ s t = t
 
-status-same : (job : Job) (payload : List ℕ) (status : ℕ) (p p′ : Progress) → Same p p′ → Same (atStatus job payload status p) (atStatus job payload status p′)
-unfolding atStatus
-status-same job payload status p p′ s =
-    let c = p .controller in
-    let c′ = p′ .controller in
-    let t = s .twin in
-    either _ _ _ _ _ (going-same p p′ _ _ s (addresses-twin job c c′ t))
-    (either _ _ _ _ _ (going-same p p′ _ _ s (sends-twin job payload c c′ t))
-    (either _ _ _ _ _ (going-same p p′ _ _ s (put-twin c c′ 3 0x41 t))
-    (either _ _ _ _ _ (stops-same p p′ c c′ _ 0 0 s t refl)
-    (either _ _ _ _ _ (stops-same p p′ c c′ _ _ _ s t refl)
-    (either _ _ _ _ _ (stops-same p p′ _ _ _ _ _ s (back-twin c c′ t) (moved-same c c′ t))
-    (either _ _ _ _ _ (reading-same job _ _ (fetch-same (job .n) 0 p p′ s))
-    (either _ _ _ _ _ (ends-same p p′ _ _ _ s (put-twin c c′ 3 0x40 t))
-    (either _ _ _ _ _ (ends-same p p′ c c′ _ s t) s))))))))
-
-pub serve-same : (job : Job) (payload : List ℕ) (event : ℕ) (p p′ : Progress) → Same p p′ → Same (serve job payload event p) (serve job payload event p′)
+pub serve-same : (service : Service) (event : ℕ) (p p′ : Progress) → Same p p′ → Same (serve service event p) (serve service event p′)
 unfolding serve
-serve-same job payload event p p′ s =
-    either _ _ _ _ _ (ends-same p p′ _ _ _ s (s .twin)) (either _ _ _ _ _ (finishes-same p p′ s)
-    (subst (λ x. Same (atStatus job payload (reads (p .controller) 0) p) (atStatus job payload x p′)) (reads-same _ _ 0 (s .twin) refl)
-    (status-same job payload _ p p′ s)))
+serve-same service event p p′ s =
+    either _ _ _ _ _ (follows-same (ends Reset) p p′ s) (either _ _ _ _ _ (follows-same finishes p p′ s)
+    (subst (λ (x : ℕ). Same (at (reads (p .controller) 0) (p .count) p) (at x (p′ .count) p′)) (reads-same _ _ 0 (s .twin) refl)
+    (subst (λ (n : ℕ). Same (at (reads (p .controller) 0) (p .count) p) (at (reads (p .controller) 0) n p′)) (s .count)
+    (either _ _ _ _ _ s (performs-same _ p p′ s)))))
+  where
+    at : ℕ → ℕ → Progress → Progress
+    at status count q = if eqb status 0xF8 then q else performs (service status count) q

@@ -1,11 +1,9 @@
--- `begin` is `begins`, call by call.
+-- `begin` makes the three writes, call by call.
 use borrow.Author.Needs.{needs}
-use Rattle.driver.specs.Service.{begins}
 use Rattle.driver.proofs.accesses.begin.Statement.{statement}
 use Rattle.driver.proofs.accesses.begin.Tie as tie
 
 returns : tie.Need-returns
-unfolding begins
 returns c = rw (c .put3 .ensures, c .before .put2 .ensures, c .before .before .count-of .ensures, c .before .before .before .put .ensures)
 
 pub begin-spec : {M : Type 1} → statement M

@@ -2,7 +2,7 @@
 use mathlib.Core.Path.{ap}
 use borrow.Author.Needs.{needs}
 use Rattle.controller.specs.Reply.{outcomeOf, Outcome}
-use Rattle.driver.specs.Service.{put}
+use Rattle.driver.specs.Work.{put}
 use Rattle.driver.proofs.accesses.put.Statement.{statement}
 use Rattle.driver.proofs.accesses.put.Tie as tie
 

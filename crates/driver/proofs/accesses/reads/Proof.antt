@@ -2,7 +2,7 @@
 use mathlib.Core.Path.{ap, _∙_}
 use borrow.Author.Needs.{needs}
 use Rattle.controller.specs.Reply.{outcomeOf, Outcome}
-use Rattle.driver.specs.Service.{reads}
+use Rattle.driver.specs.Work.{reads}
 use Rattle.driver.proofs.accesses.reads.Statement.{statement}
 use Rattle.driver.proofs.accesses.reads.Tie as tie
 

@@ -1,11 +1,9 @@
--- `send_address` is `addresses`, call by call.
+-- `send_address` makes the two writes, call by call.
 use borrow.Author.Needs.{needs}
-use Rattle.driver.specs.Service.{addresses}
 use Rattle.driver.proofs.accesses.send_address.Statement.{statement}
 use Rattle.driver.proofs.accesses.send_address.Tie as tie
 
 returns : tie.Need-returns
-unfolding addresses
 returns c = rw (c .put2 .ensures, c .before .put .ensures, c .before .before .byte .ensures)
 
 pub send-address-spec : {M : Type 1} → statement M

@@ -6,6 +6,8 @@ use borrow.Author.Needs.{needs}
 use lib.ListN.{length}
 use denote.Ref.{now}
 use Rattle.driver.specs.Run.{Run, Report, Result, closes, run, starts, handsUp, reports, declines, jobOf}
+use Rattle.driver.specs.Service.{begins, workAt}
+use Rattle.driver.specs.Work.{does, doesAll}
 use Rattle.notation.specs.Overlay.{laid}
 use Rattle.driver.specs.declared.progress.Progress.{Progress}
 use Rattle.notation.proofs.Cases.{if-true, if-false}
@@ -36,7 +38,7 @@ start-requires : tie.Need-start-requires
 start-requires c κs = small _ _ _ _ _ (sym (c .before .before .before .is-malformed .ensures) ∙ c .before .before .if1 .left)
 
 work-requires : tie.Need-work-requires
-unfolding starts
+unfolding starts doesAll does
 work-requires c κs = (small _ _ _ _ _ (sym (c .before .before .before .before .before .is-malformed .ensures) ∙ c .before .before .before .before .if1 .left), ap (λ (p : Progress). p .events) (c .before .start .ensures), ap (λ (p : Progress). p .over) (c .before .start .ensures))
 
 hand-up-requires : tie.Need-hand-up-requires
@@ -55,8 +57,8 @@ returns-2 c =
     let report = jobOf job payload (length destination) (length out) script start in
     let begin = c .before .before .before .before .before .before .before .before .before .start in
     let work = c .before .before .before .before .before .before .before .work in
-    let whole = run job payload (starts job start) script in
-    let begun : run job payload (begin .result) script ≡ whole = ap (λ (p : Progress). run job payload p script) (begin .ensures) in
+    let whole = run (workAt job payload) (starts (begins job) start) script in
+    let begun : run (workAt job payload) (begin .result) script ≡ whole = ap (λ (p : Progress). run (workAt job payload) p script) (begin .ensures) in
     let well = sym (c .before .before .before .before .before .before .before .before .before .before .before .before .before .is-malformed .ensures) ∙ c .before .before .before .before .before .before .before .before .before .before .before .before .if1 .left in
     let able = sym (c .before .before .before .before .before .before .before .before .before .before .before .is-ready .ensures) ∙ c .before .before .before .before .before .before .before .before .before .before .if2 .taken in
     let e : report ≡ reports job whole = if-false _ _ _ well ∙ if-true _ _ _ able in

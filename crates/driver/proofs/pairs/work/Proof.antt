@@ -17,7 +17,8 @@ use Rattle.controller.specs.Transfer.{counted}
 use Rattle.controller.specs.declared.reply.Reply.{Reply}
 use Rattle.driver.specs.Amid.{amidNext, amidValue}
 use Rattle.driver.specs.Run.{run, closes, taking, reaching}
-use Rattle.driver.specs.Service.{serve, ends}
+use Rattle.driver.specs.Service.{workAt}
+use Rattle.driver.specs.Work.{serve, hasWork, ends, follows}
 use Rattle.driver.specs.declared.progress.Progress.{Progress}
 use Rattle.notation.specs.Overlay.{laidAt}
 use Rattle.driver.proofs.Midway.{passes-amid, noted}
@@ -29,7 +30,7 @@ use Rattle.driver.proofs.pairs.work.Tie as tie
 abbrev Inv-loop : tie.InvT-loop
 Inv-loop job payload out₀ script p₀ c₀ events₀ at₀ i₀ out p c events at i =
     (i ≤ length script) × (events ≤ i) × (at ≤ length out) × (length out ≡ length out₀) × (p .over ≡ false) ×
-    Leads (run job payload (reaching p c events) (drop i script)) (run job payload p₀ script) at out out₀
+    Leads (run (workAt job payload) (reaching p c events) (drop i script)) (run (workAt job payload) p₀ script) at out out₀
 
 abbrev μ-loop : tie.MeasureT-loop
 μ-loop job payload out₀ script p₀ c₀ events₀ at₀ i₀ out p c events at i = length script - i
@@ -37,10 +38,9 @@ abbrev μ-loop : tie.MeasureT-loop
 loop-holds : tie.Need-loop-holds Inv-loop μ-loop
 loop-holds c =
     let s = c .before .before .before .before in
-    let job = s .args .job in
-    let payload = now (s .args .payload) in
+    let service = workAt (s .args .job) (now (s .args .payload)) in
     let script = now (s .args .script) in
-    (search needs, search needs, search needs, refl, s .pre .2, begun (ap (λ (q : Progress). run job payload q script) (reached (s .args .start) 0 (s .pre .1))))
+    (search needs, search needs, search needs, refl, s .pre .2, begun (ap (λ (q : Progress). run service q script) (reached (s .args .start) 0 (s .pre .1))))
 
 add-i : tie.Need-add-i Inv-loop μ-loop
 add-i c = omega (arith, c .before .before .if1 .left, c .before .before .before .loop .inv, c .before .before .before .before .before .before .before .before .good)
@@ -62,8 +62,7 @@ unfolding taking reaching amidNext amidValue outcomeOf accepts refusalOf valueOf
 loop-again c =
     let l = c .before .before .before .before .before .before .before .before .before .before .loop in
     let s = c .before .before .before .before .before .before .before .before .before .before .before .before .before .before .before in
-    let job = s .args .job in
-    let payload = now (s .args .payload) in
+    let service = workAt (s .args .job) (now (s .args .payload)) in
     let script = now (s .args .script) in
     let p = reaching (l .p) (l .c) (l .events) in
     let number = getD script (l .i) 0 in
@@ -74,7 +73,7 @@ loop-again c =
     let reply : Reply = record { controller = amidNext number argument (l .c); answer = Accepted (amidValue number (l .c)) } in
     let taken = taking p (amidNext number argument (l .c)) in
     let stored = ap (λ (buffer : List ℕ). reaching (l .p) (counted (withBuffer (l .c) buffer)) (l .events + 1)) (pass .ensures .0) in
-    let pair = on job payload p script (l .i) more reply (sym (m .given)) _ refl taken (sym (waits job payload number taken (m .waiting))) (l .inv .4) stored in (
+    let pair = on service p script (l .i) more reply (sym (m .given)) _ refl taken (sym (waits service number taken (m .waiting))) (l .inv .4) stored in (
       omega (arith, more),
       omega (arith, l .inv .1),
       pass .ensures .1 .0 .0,
@@ -87,7 +86,11 @@ add-events-2 : tie.Need-add-events-2 Inv-loop μ-loop
 add-events-2 c = omega (arith, c .before .before .before .before .before .before .before .before .before .before .before .before .before .if1 .left, c .before .before .before .before .before .before .before .before .before .before .before .before .before .before .loop .inv, c .before .before .before .before .before .before .before .before .before .before .before .before .before .before .before .before .before .before .before .good)
 
 serve-requires : tie.Need-serve-requires Inv-loop μ-loop
-serve-requires c κs = c .before .before .before .before .before .before .before .before .before .before .before .before .before .before .before .before .before .before .before .before .before .before .pre .0
+unfolding reaching
+serve-requires c κs =
+    let s = c .before .before .before .before .before .before .before .before .before .before .before .before .before .before .before .before .before .before .before .before .before .before in
+    let number = getD (now (s .args .script)) (c .before .before .before .before .before .before .before .before .before .before .before .before .before .before .before .before .before .loop .i) 0 in
+    (s .pre .0, ap (λ (t : Progress). hasWork number (t .controller)) (c .reach3 .ensures) ∙ sym (c .before .before .asks .ensures) ∙ c .before .if3 .taken)
 
 loop-less-2 : tie.Need-loop-less-2 Inv-loop μ-loop
 loop-less-2 c = omega (arith, c .before .before .before .before .before .before .before .before .before .before .before .before .before .before .before .before .before .before .before .if1 .left)
@@ -97,8 +100,7 @@ unfolding taking reaching
 loop-again-2 c =
     let l = c .before .before .before .before .before .before .before .before .before .before .before .before .before .before .before .before .before .before .before .before .loop in
     let s = c .before .before .before .before .before .before .before .before .before .before .before .before .before .before .before .before .before .before .before .before .before .before .before .before .before in
-    let job = s .args .job in
-    let payload = now (s .args .payload) in
+    let service = workAt (s .args .job) (now (s .args .payload)) in
     let script = now (s .args .script) in
     let p = reaching (l .p) (l .c) (l .events) in
     let number = getD script (l .i) 0 in
@@ -108,9 +110,9 @@ loop-again-2 c =
     let accepted = c .before .before .before .before .before .before .before .before .before .before .before .before .answer2 .given .1 in
     let taken = taking p (event .result .controller) in
     let q = c .before .before .serve .result in
-    let served = c .before .before .serve .ensures ∙ ap (λ (t : Progress). serve job payload number t) (c .before .before .before .reach3 .ensures) in
-    let events = ap (λ (t : Progress). t .events) served ∙ serve-events job payload number taken in
-    let pair = on job payload p script (l .i) more (event .result) (event .ensures) _ accepted q served (c .if4 .left) (reached q (l .events + 1) events) in (
+    let served = c .before .before .serve .ensures ∙ ap (λ (t : Progress). serve service number t) (c .before .before .before .reach3 .ensures) in
+    let events = ap (λ (t : Progress). t .events) served ∙ serve-events service number taken in
+    let pair = on service p script (l .i) more (event .result) (event .ensures) _ accepted q served (c .if4 .left) (reached q (l .events + 1) events) in (
       omega (arith, more),
       omega (arith, l .inv .1),
       note .ensures .0 .0,
@@ -127,8 +129,7 @@ unfolding taking reaching
 loop-again-3 c =
     let l = c .before .before .before .before .before .before .before .before .before .before .before .before .before .before .before .before .loop in
     let s = c .before .before .before .before .before .before .before .before .before .before .before .before .before .before .before .before .before .before .before .before .before in
-    let job = s .args .job in
-    let payload = now (s .args .payload) in
+    let service = workAt (s .args .job) (now (s .args .payload)) in
     let script = now (s .args .script) in
     let p = reaching (l .p) (l .c) (l .events) in
     let number = getD script (l .i) 0 in
@@ -138,7 +139,7 @@ loop-again-3 c =
     let accepted = c .before .before .before .before .before .before .before .before .answer2 .given .1 in
     let taken = taking p (event .result .controller) in
     let idle = sym (c .before .asks .ensures) ∙ c .if3 .left in
-    let pair = on job payload p script (l .i) more (event .result) (event .ensures) _ accepted taken (sym (waits job payload number taken idle)) (l .inv .4) refl in (
+    let pair = on service p script (l .i) more (event .result) (event .ensures) _ accepted taken (sym (waits service number taken idle)) (l .inv .4) refl in (
       omega (arith, more),
       omega (arith, l .inv .1),
       note .ensures .0 .0,
@@ -152,12 +153,11 @@ unfolding reaching
 returns c =
     let l = c .before .before .before .loop in
     let s = c .before .before .before .before .before .before .before .before in
-    let job = s .args .job in
-    let payload = now (s .args .payload) in
+    let service = workAt (s .args .job) (now (s .args .payload)) in
     let script = now (s .args .script) in
     let p = reaching (l .p) (l .c) (l .events) in
-    let stopped = c .end .ensures ∙ ap (λ (t : Progress). ends t (l .c) Unfinished) (c .before .reach .ensures) in
-    ended (c .end .result) (runs-out job payload p script (l .i) (c .before .before .if1 .taken) ∙ ap closes (sym stopped)) (l .inv .5)
+    let stopped = c .end .ensures ∙ ap (λ (t : Progress). follows (ends Unfinished) t) (c .before .reach .ensures) in
+    ended (c .end .result) (runs-out service p script (l .i) (c .before .before .if1 .taken) ∙ ap closes (sym stopped)) (l .inv .5)
 
 same-length-2 : tie.Need-same-length-2 Inv-loop μ-loop
 same-length-2 c = c .before .before .before .before .before .before .before .before .before .before .before .loop .inv .3
@@ -167,14 +167,13 @@ unfolding reaching
 returns-2 c =
     let l = c .before .before .before .before .before .before .before .before .before .before .before .loop in
     let s = c .before .before .before .before .before .before .before .before .before .before .before .before .before .before .before .before in
-    let job = s .args .job in
-    let payload = now (s .args .payload) in
+    let service = workAt (s .args .job) (now (s .args .payload)) in
     let script = now (s .args .script) in
     let p = reaching (l .p) (l .c) (l .events) in
     let event = c .before .before .before .before .before .event in
     let more : l .i + 1 < length script = omega (arith, c .before .before .before .before .before .before .before .before .before .before .if1 .left) in
-    let refusal = refused job payload p script (l .i) more (event .result) (event .ensures) _ (c .before .before .before .answer .given .1) in
-    let stopped = c .end2 .ensures ∙ ap (λ (t : Progress). ends t (l .c) (Refused (c .before .before .before .answer .given .0 .0))) (c .before .reach2 .ensures) in
+    let refusal = refused service p script (l .i) more (event .result) (event .ensures) _ (c .before .before .before .answer .given .1) in
+    let stopped = c .end2 .ensures ∙ ap (λ (t : Progress). follows (ends (Refused (c .before .before .before .answer .given .0 .0))) t) (c .before .reach2 .ensures) in
     ended (c .end2 .result) (refusal ∙ ap closes (sym stopped)) (l .inv .5)
 
 same-length-3 : tie.Need-same-length-3 Inv-loop μ-loop
@@ -185,8 +184,7 @@ unfolding taking reaching
 returns-3 c =
     let l = c .before .before .before .before .before .before .before .before .before .before .before .before .before .before .before .before .before .before .before .before .loop in
     let s = c .before .before .before .before .before .before .before .before .before .before .before .before .before .before .before .before .before .before .before .before .before .before .before .before .before in
-    let job = s .args .job in
-    let payload = now (s .args .payload) in
+    let service = workAt (s .args .job) (now (s .args .payload)) in
     let script = now (s .args .script) in
     let p = reaching (l .p) (l .c) (l .events) in
     let number = getD script (l .i) 0 in
@@ -195,8 +193,8 @@ returns-3 c =
     let more : l .i + 1 < length script = omega (arith, c .before .before .before .before .before .before .before .before .before .before .before .before .before .before .before .before .before .before .before .if1 .left) in
     let accepted = c .before .before .before .before .before .before .before .before .before .before .before .before .answer2 .given .1 in
     let q = c .before .before .serve .result in
-    let served = c .before .before .serve .ensures ∙ ap (λ (t : Progress). serve job payload number t) (c .before .before .before .reach3 .ensures) in
-    let pair = over job payload p script (l .i) more (event .result) (event .ensures) _ accepted q served (c .if4 .taken) in
+    let served = c .before .before .serve .ensures ∙ ap (λ (t : Progress). serve service number t) (c .before .before .before .reach3 .ensures) in
+    let pair = over service p script (l .i) more (event .result) (event .ensures) _ accepted q served (c .if4 .taken) in
     ended q refl (passes number _ pair (note .ensures .1) (l .inv .5))
 
 pub work-spec : {M : Type 1} → statement M

@@ -1,7 +1,7 @@
 -- `asks` is `hasWork`: what is known at each return settles its tests.
 use borrow.Author.Needs.{needs}
 use borrow.Author.Tests.{ne-eqb}
-use Rattle.driver.specs.Service.{hasWork}
+use Rattle.driver.specs.Work.{hasWork}
 use Rattle.notation.proofs.Cases.{cases}
 use Rattle.notation.specs.Choice.{_or_}
 use Rattle.driver.proofs.service.asks.Statement.{statement}

@@ -1,54 +1,89 @@
--- `at_status` is `atStatus`: the arm of one number computes, and what the other arms know settles the tests of the definition.
-use mathlib.Core.List.{[], _∷_}
+-- `at_status` does the work of its table: the arm of one number computes, and what the other arms know settles the tests of the table.
+use mathlib.Core.List.{List, [], _∷_}
+use mathlib.Core.Logic.{inl, inr}
+use mathlib.Core.Path.{_≡_, sym, ap, _∙_}
+use Prim.Native.Nat.{ℕ}
 use borrow.Author.Needs.{needs}
 use borrow.Author.Tests.{ne-eqb}
-use Rattle.driver.specs.Service.{atStatus}
-use Rattle.notation.proofs.Among.{keys-in, none-of}
+use lib.ListN.{take}
+use denote.Ref.{now}
+use types.Run.{OneOf}
+use Rattle.answer.specs.declared.ending.Ending.the-variants.{AddressNacked, Fault}
+use Rattle.driver.specs.Service.{going, stopping, ending, workAt}
+use Rattle.driver.specs.Work.{Work, writes, counts, ends, does, doesAll, follows, performs}
+use Rattle.driver.specs.declared.job.Job.{Job}
+use Rattle.driver.specs.declared.progress.Progress.{Progress}
+use Rattle.notation.proofs.Among.{none-of}
 use Rattle.notation.proofs.Cases.{cases}
 use Rattle.notation.specs.Choice.{if_then_else_, among}
-use Rattle.driver.proofs.Steps.{misses}
+use Rattle.driver.proofs.Steps.{load-block}
 use Rattle.driver.proofs.service.at_status.Statement.{statement}
 use Rattle.driver.proofs.service.at_status.Tie as tie
 
+-- the arms of several numbers
+nacked : (job : Job) (payload : List ℕ) (status count : ℕ) → OneOf (0x20 ∷ 0x48 ∷ []) status → workAt job payload status count ≡ stopping (counts 0 ∷ []) AddressNacked
+unfolding workAt among if_then_else_
+nacked job payload status count (inl e) = rw e
+nacked job payload status count (inr e) = rw e
+
+fault : (job : Job) (payload : List ℕ) (status count : ℕ) → OneOf (0x00 ∷ 0x70 ∷ 0x78 ∷ []) status → workAt job payload status count ≡ ending [] Fault
+unfolding workAt among if_then_else_
+fault job payload status count (inl e) = rw e
+fault job payload status count (inr (inl e)) = rw e
+fault job payload status count (inr (inr e)) = rw e
+
 returns : tie.Need-returns
-unfolding atStatus among if_then_else_
+unfolding workAt among if_then_else_ performs doesAll does follows
 returns c = rw (c .go-on .ensures, c .before .send-address .ensures, c .before .before .match .keys1)
 
 returns-2 : tie.Need-returns-2
-unfolding atStatus among if_then_else_
-returns-2 c = rw (c .go-on2 .ensures, c .before .send-data .ensures, c .before .before .match .keys2)
+unfolding workAt among if_then_else_ performs doesAll does follows
+returns-2 c =
+    let args = c .before .before .before .before .before .args in
+    rw (c .go-on2 .ensures, c .before .send-data .ensures, c .before .before .match .keys2)
+    (sym (load-block (take (args .job .n) (now (args .payload))) (writes 3 0x41 ∷ []) (args .p)))
 
 returns-3 : tie.Need-returns-3
-unfolding atStatus among if_then_else_
+unfolding workAt among if_then_else_ performs doesAll does follows
 returns-3 c = rw (c .go-on3 .ensures, c .before .put .ensures, c .before .before .match .keys3)
 
 returns-4 : tie.Need-returns-4
-unfolding atStatus
-returns-4 c = search (misses (0x20 ∷ 0x48 ∷ []) (c .before .before .before .before .args .status) (c .before .match .keys4), keys-in (0x20 ∷ 0x48 ∷ []) (c .before .before .before .before .args .status) (c .before .match .keys4), cases)
+unfolding performs doesAll does follows
+returns-4 c =
+    let args = c .before .before .before .before .before .args in
+    c .stop .ensures
+    ∙ ap (performs (stopping [] AddressNacked)) (c .before .counted .ensures)
+    ∙ sym (ap (λ (w : Work). performs w (args .p)) (nacked (args .job) (now (args .payload)) (args .status) (args .p .count) (c .before .before .match .keys4)))
 
 returns-5 : tie.Need-returns-5
-unfolding atStatus among if_then_else_
-returns-5 c = rw (c .stop2 .ensures, c .before .match .keys5)
+unfolding workAt among if_then_else_ performs doesAll does follows
+returns-5 c = rw (c .stop2 .ensures, c .before .counted2 .ensures, c .before .before .match .keys5)
 
 returns-6 : tie.Need-returns-6
-unfolding atStatus among if_then_else_
-returns-6 c = rw (c .stop3 .ensures, c .before .point-back .ensures, c .before .before .before .match .keys6, ← c .before .before .moved-count .ensures)
+unfolding workAt among if_then_else_ performs doesAll does follows
+returns-6 c = rw (c .stop3 .ensures, c .before .find-moved .ensures, c .before .before .match .keys6)
 
 returns-7 : tie.Need-returns-7
-unfolding atStatus among if_then_else_
-returns-7 c = rw (c .stop-read .ensures, c .before .match .keys7)
+unfolding workAt among if_then_else_ performs doesAll does follows
+returns-7 c = rw (c .stop4 .ensures, c .before .fetch .ensures, c .before .before .before .counted3 .ensures, c .before .before .before .before .match .keys7)
 
 returns-8 : tie.Need-returns-8
-unfolding atStatus among if_then_else_
-returns-8 c = rw (c .end .ensures, c .before .put2 .ensures, c .before .before .match .keys8)
+unfolding workAt among if_then_else_ performs doesAll does follows
+returns-8 c = rw (c .end .ensures, c .before .go-on4 .ensures, c .before .before .put2 .ensures, c .before .before .before .match .keys8)
 
 returns-9 : tie.Need-returns-9
-unfolding atStatus
-returns-9 c = search (misses (0x00 ∷ 0x70 ∷ 0x78 ∷ []) (c .before .before .before .before .args .status) (c .before .match .keys9), keys-in (0x00 ∷ 0x70 ∷ 0x78 ∷ []) (c .before .before .before .before .args .status) (c .before .match .keys9), cases)
+unfolding performs doesAll
+returns-9 c =
+    let args = c .before .before .before .before .args in
+    c .end2 .ensures
+    ∙ sym (ap (λ (w : Work). performs w (args .p)) (fault (args .job) (now (args .payload)) (args .status) (args .p .count) (c .before .match .keys9)))
 
 returns-10 : tie.Need-returns-10
-unfolding atStatus
-returns-10 c = search (none-of (0x00 ∷ 0x70 ∷ 0x78 ∷ []) (c .before .before .before .args .status) (c .match .rest .1), ne-eqb (c .before .before .before .args .status) 0x38 (c .match .rest .0 .1), ne-eqb (c .before .before .before .args .status) 0x58 (c .match .rest .0 .0 .1), ne-eqb (c .before .before .before .args .status) 0x30 (c .match .rest .0 .0 .0 .1), ne-eqb (c .before .before .before .args .status) 0x28 (c .match .rest .0 .0 .0 .0 .1), none-of (0x20 ∷ 0x48 ∷ []) (c .before .before .before .args .status) (c .match .rest .0 .0 .0 .0 .0 .1), ne-eqb (c .before .before .before .args .status) 0x40 (c .match .rest .0 .0 .0 .0 .0 .0 .1), ne-eqb (c .before .before .before .args .status) 0x18 (c .match .rest .0 .0 .0 .0 .0 .0 .0 .1), ne-eqb (c .before .before .before .args .status) 0x08 (c .match .rest .0 .0 .0 .0 .0 .0 .0 .0 .1), cases)
+unfolding workAt performs doesAll follows
+returns-10 c =
+    let args = c .before .before .before .args in
+    let nothing : workAt (args .job) (now (args .payload)) (args .status) (args .p .count) ≡ going [] = search (none-of (0x00 ∷ 0x70 ∷ 0x78 ∷ []) (c .before .before .before .args .status) (c .match .rest .1), ne-eqb (c .before .before .before .args .status) 0x38 (c .match .rest .0 .1), ne-eqb (c .before .before .before .args .status) 0x58 (c .match .rest .0 .0 .1), ne-eqb (c .before .before .before .args .status) 0x30 (c .match .rest .0 .0 .0 .1), ne-eqb (c .before .before .before .args .status) 0x28 (c .match .rest .0 .0 .0 .0 .1), none-of (0x20 ∷ 0x48 ∷ []) (c .before .before .before .args .status) (c .match .rest .0 .0 .0 .0 .0 .1), ne-eqb (c .before .before .before .args .status) 0x40 (c .match .rest .0 .0 .0 .0 .0 .0 .1), ne-eqb (c .before .before .before .args .status) 0x18 (c .match .rest .0 .0 .0 .0 .0 .0 .0 .1), ne-eqb (c .before .before .before .args .status) 0x08 (c .match .rest .0 .0 .0 .0 .0 .0 .0 .0 .1), cases) in
+    sym (ap (λ (w : Work). performs w (args .p)) nothing)
 
 pub at-status-spec : {M : Type 1} → statement M
 at-status-spec =
@@ -63,6 +98,11 @@ at-status-spec =
     (λ c κs. search needs)
     (λ c κs. search needs)
     (λ c κs. search needs)
+    (λ c κs. search needs)
+    (λ c κs. search needs)
+    (λ c κs. search needs)
+    (λ c κs. search needs)
+    (λ c. search needs)
     (λ c κs. search needs)
     (λ c κs. search needs)
     (λ c κs. search needs)

@@ -1,11 +1,11 @@
 -- `end` is `ends`, field by field.
 use mathlib.Core.Path.{refl}
-use Rattle.driver.specs.Service.{ends}
+use Rattle.driver.specs.Work.{follows}
 use Rattle.driver.proofs.progress.Progress.end.Statement.{statement}
 use Rattle.driver.proofs.progress.Progress.end.Tie as tie
 
 returns : tie.Need-returns
-unfolding ends
+unfolding follows
 returns c = refl
 
 pub end-spec : {M : Type 1} → statement M

@@ -1,11 +1,11 @@
 -- `finish` is `finishes`, field by field.
 use mathlib.Core.Path.{refl}
-use Rattle.driver.specs.Service.{finishes}
+use Rattle.driver.specs.Work.{follows}
 use Rattle.driver.proofs.progress.Progress.finish.Statement.{statement}
 use Rattle.driver.proofs.progress.Progress.finish.Tie as tie
 
 returns : tie.Need-returns
-unfolding finishes
+unfolding follows
 returns c = refl
 
 pub finish-spec : {M : Type 1} → statement M

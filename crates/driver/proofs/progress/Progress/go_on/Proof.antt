@@ -1,11 +1,9 @@
 -- `go_on` is `goesOn`, field by field.
 use mathlib.Core.Path.{refl}
-use Rattle.driver.specs.Service.{goesOn}
 use Rattle.driver.proofs.progress.Progress.go_on.Statement.{statement}
 use Rattle.driver.proofs.progress.Progress.go_on.Tie as tie
 
 returns : tie.Need-returns
-unfolding goesOn
 returns c = refl
 
 pub go-on-spec : {M : Type 1} → statement M

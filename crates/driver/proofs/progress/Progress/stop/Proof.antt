@@ -1,11 +1,11 @@
 -- `stop` is `stops`, field by field.
 use borrow.Author.Needs.{needs}
-use Rattle.driver.specs.Service.{stops}
+use Rattle.driver.specs.Work.{performs, doesAll, does, follows}
 use Rattle.driver.proofs.progress.Progress.stop.Statement.{statement}
 use Rattle.driver.proofs.progress.Progress.stop.Tie as tie
 
 returns : tie.Need-returns
-unfolding stops
+unfolding performs doesAll does follows
 returns c = rw (c .before .put .ensures)
 
 pub stop-spec : {M : Type 1} → statement M
