@@ -1,6 +1,6 @@
 -- Document 01, Jobs, the table of answers: the number of each, and the number beside it.
 use Prim.Native.Nat.{ℕ}
-use Rattle.answer.specs.Number.{numberOf as refusalNumber}
+use Rattle.answer.specs.Refusal.{refusalNumber}
 use Rattle.answer.specs.declared.ending.Ending.the-variants.{Done, Malformed, NotReady, AddressNacked, DataNacked, Lost, Fault, Unfinished, Refused, Reset}
 use Rattle.answer.specs.declared.ending.Ending.{Ending}
 

@@ -1,3 +1,3 @@
 -- Answers in document 01's numbers.
-pub mod Number
+pub mod Refusal
 pub mod Ending

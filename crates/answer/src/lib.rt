@@ -2,7 +2,7 @@
 pub mod ending;
 
 ghost use mathlib.Core.Path.{_≡_};
-ghost use Rattle.answer.specs.Number.{numberOf, refusalOf, valueOf};
+ghost use Rattle.answer.specs.Refusal.{refusalNumber, refusalOf, valueOf};
 
 // Why an access or event is refused.
 pub enum Refusal {
@@ -27,7 +27,7 @@ pub enum Answer {
 impl Refusal {
     // The number in document 01's table.
     pub fn number(self) -> u8
-        ensures { λ r. ⌜ r ≡ numberOf self ⌝ }
+        ensures { λ r. ⌜ r ≡ refusalNumber self ⌝ }
     {
         match self {
             Refusal::OutOfRange => 1,

@@ -1,3 +1,3 @@
 -- Laws that the proofs here and above cite.
-pub mod Access
+pub mod DataAccess
 pub mod Rounds

@@ -9,7 +9,7 @@ use lib.Seq.{drop-cons}
 use Rattle.controller.specs.Access.{readOf, writeOf}
 use Rattle.controller.specs.declared.record.Controller.{Controller}
 use Rattle.block.specs.Block.{reachOf, written, afterReads, valuesRead}
-use Rattle.block.proofs.Access.{Gives, write-outside}
+use Rattle.block.proofs.DataAccess.{Gives, write-outside}
 use Rattle.notation.proofs.Overlay.{one-more, past-end}
 use Rattle.notation.specs.Overlay.{laid, laidAt}
 

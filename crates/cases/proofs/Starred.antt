@@ -5,7 +5,7 @@ use Rattle.address.specs.Number.{bitOf, byteOf, addressOf, directionOf}
 use Rattle.cases.specs.Starred.{StarredCases, lastShown, times}
 use Rattle.control.specs.Flags.{flagsOf, weighs, readsAs}
 use Rattle.control.specs.Turn.{kind, statusOf, edgeOf, calledOf}
-use Rattle.control.specs.Writing.{ends as endsAt, afterEdge, atStatus as respondsAt, response}
+use Rattle.control.specs.Writing.{endOr, afterEdge, respondsAt, response}
 use Rattle.controller.specs.Access.{indirectAt, barsRead, barsWrite, readSound, readOf, writeSound, writeOf}
 use Rattle.controller.specs.Condition.{ownStart, otherStart, otherStop, ownStop, addressed, addressByte, outbid, addressLost, dataLost, illegalEdge, dataHeld, clockHeld, idle}
 use Rattle.controller.specs.Event.{badArgument, eventSound, eventOf}
@@ -22,5 +22,5 @@ use Rattle.driver.specs.Work.{put, reads, fetchOne, fetch, does, doesAll, follo
 use Rattle.notation.specs.Choice.{if_then_else_, _and_, _or_, among}
 
 pub starred : StarredCases
-unfolding if_then_else_ _and_ _or_ among callsAll callsOwn matchOf bitOf byteOf addressOf directionOf flagsOf weighs readsAs kind statusOf edgeOf calledOf endsAt afterEdge respondsAt response indirectAt barsRead barsWrite readSound readOf writeSound writeOf ownStart otherStart otherStop ownStop addressed addressByte outbid addressLost dataLost illegalEdge dataHeld clockHeld idle badArgument eventSound eventOf keeps controlled badCount enabled writeFlags writeControl hostSound moveSound sound wrote writePointer readData writeData atPointer stored writeAtPointer refuses accepts waitsFor interruptsAt resetWith completesReset writePreset cursor isLast dataOut addressStatus byteOut acknowledgesLast received dataIn slaveIn byteIn badLength badAddress lent malformed ready closes breaks sending taking run starts handsUp reports declines jobOf put reads countOf workAt fetchOne fetch does doesAll follows performs serve lastShown times
+unfolding if_then_else_ _and_ _or_ among callsAll callsOwn matchOf bitOf byteOf addressOf directionOf flagsOf weighs readsAs kind statusOf edgeOf calledOf endOr afterEdge respondsAt response indirectAt barsRead barsWrite readSound readOf writeSound writeOf ownStart otherStart otherStop ownStop addressed addressByte outbid addressLost dataLost illegalEdge dataHeld clockHeld idle badArgument eventSound eventOf keeps controlled badCount enabled writeFlags writeControl hostSound moveSound sound wrote writePointer readData writeData atPointer stored writeAtPointer refuses accepts waitsFor interruptsAt resetWith completesReset writePreset cursor isLast dataOut addressStatus byteOut acknowledgesLast received dataIn slaveIn byteIn badLength badAddress lent malformed ready closes breaks sending taking run starts handsUp reports declines jobOf put reads countOf workAt fetchOne fetch does doesAll follows performs serve lastShown times
 starred = refl

@@ -9,7 +9,7 @@ use lib.Dec.{eqb}
 use lib.ListN.{length, take, replicate}
 use Rattle.address.specs.Number.{bitOf}
 use Rattle.console.proofs.OneByteEach.{one-byte-each}
-use Rattle.console.specs.Report.{jobText, reportText}
+use Rattle.console.specs.JobText.{jobText, reportText}
 use Rattle.console.specs.Sent.{sentCount, handedCount}
 use Rattle.controller.specs.declared.record.Controller.{Controller}
 use Rattle.answer.specs.Ending.{numberOf}

@@ -1,3 +1,3 @@
 -- What the programs print.
-pub mod Report
+pub mod JobText
 pub mod Sent

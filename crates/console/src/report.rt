@@ -4,7 +4,7 @@ use driver::job::JobResult;
 use text::put::put_decimal;
 use text::put::put_listed;
 use text::put::put_word;
-ghost use Rattle.console.specs.Report.{beside as besideText, firstLine, bytesLine, jobText};
+ghost use Rattle.console.specs.JobText.{beside as besideText, firstLine, bytesLine, jobText};
 ghost use Rattle.text.specs.Text.{Holds};
 ghost use Rattle.answer.specs.Ending.{numberOf, besideOf};
 ghost use Rattle.driver.specs.Run.{resultOf};

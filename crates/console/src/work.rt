@@ -6,7 +6,7 @@ use controller::record::Controller;
 use driver::job::Job;
 use driver::job::run_job;
 ghost use mathlib.Core.Path.{_≡_};
-ghost use Rattle.console.specs.Report.{reportText};
+ghost use Rattle.console.specs.JobText.{reportText};
 ghost use Rattle.text.specs.Text.{Holds};
 ghost use Rattle.driver.specs.Run.{jobOf};
 

@@ -73,6 +73,10 @@ wireTurns = address ∷ send ∷ receive ∷ slaveReceive ∷ slaveSend ∷ stop
 abbrev pub dataTurns : List ℕ
 dataTurns = send ∷ receive ∷ slaveReceive ∷ slaveSend ∷ []
 
+-- the statuses of a bus fault, which only a reset leaves: 00h, 70h and 78h
+abbrev pub faults : List ℕ
+faults = 0x00 ∷ 0x70 ∷ 0x78 ∷ []
+
 -- what I2CSTA reads: the status in Host, else F8h
 unfoldable pub statusOf : Turn → ℕ
 statusOf Off = 0xF8

@@ -13,8 +13,8 @@ use Rattle.control.specs.declared.writing.Response.{Response}
 use Rattle.notation.specs.Choice.{if_then_else_, _or_, among}
 
 -- 18h, 20h, 28h, 30h, 48h, 58h: "STA Restarting; STO Stopping; both Stopping", and `otherwise` where neither is set
-unfoldable pub ends : Control → Response → Response
-ends k otherwise =
+unfoldable pub endOr : Control → Response → Response
+endOr k otherwise =
     if k .sto then Next Stopping
     else if k .sta then Next Restarting
     else otherwise
@@ -25,12 +25,12 @@ afterEdge Stop = Free
 afterEdge Start = Listen
 
 -- "by the status before it". What is not listed is refused 5; at 00h, 70h and 78h a write is refused 4 before that.
-unfoldable pub atStatus : ℕ → Edge → Control → Response
-atStatus status edge k =
+unfoldable pub respondsAt : ℕ → Edge → Control → Response
+respondsAt status edge k =
     if among status (0x08 ∷ 0x10 ∷ []) then (if k .mode then Unlisted else Next Address)
-    else if among status (0x18 ∷ 0x20 ∷ 0x28 ∷ 0x30 ∷ []) then ends k (Next Send)
+    else if among status (0x18 ∷ 0x20 ∷ 0x28 ∷ 0x30 ∷ []) then endOr k (Next Send)
     else if among status (0x40 ∷ 0x50 ∷ []) then (if k .sta or k .sto then Unlisted else Next Receive)
-    else if among status (0x48 ∷ 0x58 ∷ []) then ends k Unlisted
+    else if among status (0x48 ∷ 0x58 ∷ []) then endOr k Unlisted
     else if among status (0x38 ∷ []) then Next Busy
     else if among status (0x60 ∷ 0x68 ∷ 0x80 ∷ []) then Next (SlaveReceive Own)
     else if among status (0xD0 ∷ 0xD8 ∷ 0xE0 ∷ []) then Next (SlaveReceive General)
@@ -43,5 +43,5 @@ atStatus status edge k =
 unfoldable pub response : Turn → Control → Response
 response turn k =
     if waits turn (off ∷ []) then Next Free
-    else if waits turn (host ∷ []) then atStatus (statusOf turn) (edgeOf turn) k
+    else if waits turn (host ∷ []) then respondsAt (statusOf turn) (edgeOf turn) k
     else Next turn

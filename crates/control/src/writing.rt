@@ -4,7 +4,7 @@ use crate::turn::Called;
 use crate::turn::Edge;
 use crate::turn::Turn;
 ghost use mathlib.Core.Path.{_≡_};
-ghost use Rattle.control.specs.Writing.{ends, afterEdge, atStatus, response};
+ghost use Rattle.control.specs.Writing.{endOr, afterEdge, respondsAt, response};
 
 pub enum Response {
     Next(Turn),
@@ -13,7 +13,7 @@ pub enum Response {
 
 // STO leads to Stopping, also beside STA; STA alone to Restarting.
 fn end_or(k: Control, otherwise: Response) -> Response
-    ensures { λ r. ⌜ r ≡ ends k otherwise ⌝ }
+    ensures { λ r. ⌜ r ≡ endOr k otherwise ⌝ }
 {
     if k.sto {
         return Response::Next(Turn::Stopping);
@@ -34,8 +34,8 @@ fn after_edge(edge: Edge) -> Turn
     }
 }
 
-fn at_status(status: u8, edge: Edge, k: Control) -> Response
-    ensures { λ r. ⌜ r ≡ atStatus status edge k ⌝ }
+fn respond_at(status: u8, edge: Edge, k: Control) -> Response
+    ensures { λ r. ⌜ r ≡ respondsAt status edge k ⌝ }
 {
     match status {
         0x08 | 0x10 => {
@@ -72,7 +72,7 @@ pub fn respond(turn: Turn, k: Control) -> Response
 {
     match turn {
         Turn::Off => Response::Next(Turn::Free),
-        Turn::Host(status, edge) => at_status(status, edge, k),
+        Turn::Host(status, edge) => respond_at(status, edge, k),
         _ => Response::Next(turn),
     }
 }

@@ -1,2 +1,2 @@
 -- Laws of the record, cited by the proofs here and above.
-pub mod Soundness
+pub mod SoundParts

@@ -11,7 +11,8 @@ use Rattle.control.specs.Turn.{off, host, free, busy, listen, address, send, re
 use Rattle.control.specs.declared.flags.Control.{Control}
 use Rattle.control.specs.declared.turn.Edge.the-variants.{Stop, Start}
 use Rattle.control.specs.declared.turn.Turn.the-variants.{Free, Busy, Listen}
-use Rattle.controller.specs.Record.{place, timeoutEnabled, withControl}
+use Rattle.controller.specs.Record.{place, timeoutEnabled}
+use Rattle.controller.specs.Setters.{withControl}
 use Rattle.controller.specs.Reply.{Outcome, refuses, accepts, waitsFor, interruptsAt, gives}
 use Rattle.controller.specs.declared.record.Controller.{Controller}
 use Rattle.notation.specs.Choice.{if_then_else_, _and_, _or_}

@@ -4,14 +4,15 @@ use mathlib.Core.List.{[], _∷_}
 use Prim.Native.Nat.{ℕ}
 use lib.Dec.{eqb, ltb}
 use Rattle.control.specs.Flags.{flagsOf}
-use Rattle.control.specs.Turn.{stopping, dataTurns, waits, statusOf}
+use Rattle.control.specs.Turn.{faults, stopping, dataTurns, waits, statusOf}
 use Rattle.control.specs.Writing.{response}
 use Rattle.control.specs.declared.flags.Control.{Control}
 use Rattle.control.specs.declared.turn.Turn.the-variants.{Off}
 use Rattle.control.specs.declared.turn.Turn.{Turn}
 use Rattle.control.specs.declared.writing.Response.the-variants.{Next, Unlisted}
 use Rattle.control.specs.declared.writing.Response.{Response}
-use Rattle.controller.specs.Record.{byteCount, withHand, withMoved, withControl, withTurn}
+use Rattle.controller.specs.Record.{byteCount}
+use Rattle.controller.specs.Setters.{withHand, withMoved, withControl, withTurn}
 use Rattle.controller.specs.Registers.{wrote}
 use Rattle.controller.specs.Reply.{Outcome, refuses}
 use Rattle.controller.specs.declared.record.Controller.{Controller}
@@ -47,7 +48,7 @@ withoutStart k = record { aa = k .aa; ensio = k .ensio; sta = false; sto = k .st
 -- refusal 4: "I2CCON write at 00h, 70h or 78h"
 unfoldable pub writeFlags : Controller → Control → Outcome
 writeFlags c k =
-    if among (statusOf (c .turn)) (0x00 ∷ 0x70 ∷ 0x78 ∷ []) then refuses c 4
+    if among (statusOf (c .turn)) faults then refuses c 4
     else if k .ensio then enabled c k (response (c .turn) k)
     else controlled c (withoutStart k) Off
 

@@ -1,5 +1,6 @@
 -- The controller, by the sections of document 01.
 pub mod Record
+pub mod Setters
 pub mod Reply
 pub mod Reset
 pub mod Registers

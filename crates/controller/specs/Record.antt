@@ -3,12 +3,10 @@ use mathlib.Core.Bool.{Bool, true}
 use mathlib.Core.List.{List, [], _∷_}
 use Prim.Native.Nat.{ℕ, _/_, _%_}
 use lib.Dec.{eqb, leb, ltb}
-use lib.ListN.{getD, set}
+use lib.ListN.{getD}
 use Rattle.control.specs.Turn.{host, dataTurns, waits, statusOf}
-use Rattle.control.specs.declared.flags.Control.{Control}
 use Rattle.control.specs.declared.turn.Turn.{Turn}
 use Rattle.controller.specs.declared.record.Controller.{Controller}
-use Rattle.controller.specs.declared.record.Registers.{Registers}
 use Rattle.notation.specs.Choice.{if_then_else_, _and_, among}
 
 -- "The buffer holds 68 bytes, numbered 0 to 67": the byte at a place
@@ -53,44 +51,3 @@ unfoldable pub sound : Controller → Bool
 sound c =
     leb (c .pointer) 7 and leb (c .hand) 68 and leb (c .moved) 68 and leb (c .registers .speed) 3 and
     hostSound (c .turn) and moveSound c
-
--- a record of these parts
-abbrev pub made : List ℕ → ℕ → ℕ → ℕ → Bool → Registers → Control → Turn → Controller
-made buffer hand moved pointer armed registers control turn = record {
-  buffer = buffer;
-  hand = hand;
-  moved = moved;
-  pointer = pointer;
-  armed = armed;
-  registers = registers;
-  control = control;
-  turn = turn;
-}
-
--- The record with one item changed.
-abbrev pub withBuffer : Controller → List ℕ → Controller
-withBuffer c x = made x (c .hand) (c .moved) (c .pointer) (c .armed) (c .registers) (c .control) (c .turn)
-
-abbrev pub withPlace : Controller → ℕ → ℕ → Controller
-withPlace c i x = made (set (c .buffer) i x) (c .hand) (c .moved) (c .pointer) (c .armed) (c .registers) (c .control) (c .turn)
-
-abbrev pub withHand : Controller → ℕ → Controller
-withHand c x = made (c .buffer) x (c .moved) (c .pointer) (c .armed) (c .registers) (c .control) (c .turn)
-
-abbrev pub withMoved : Controller → ℕ → Controller
-withMoved c x = made (c .buffer) (c .hand) x (c .pointer) (c .armed) (c .registers) (c .control) (c .turn)
-
-abbrev pub withPointer : Controller → ℕ → Controller
-withPointer c x = made (c .buffer) (c .hand) (c .moved) x (c .armed) (c .registers) (c .control) (c .turn)
-
-abbrev pub withArmed : Controller → Bool → Controller
-withArmed c x = made (c .buffer) (c .hand) (c .moved) (c .pointer) x (c .registers) (c .control) (c .turn)
-
-abbrev pub withRegisters : Controller → Registers → Controller
-withRegisters c x = made (c .buffer) (c .hand) (c .moved) (c .pointer) (c .armed) x (c .control) (c .turn)
-
-abbrev pub withControl : Controller → Control → Controller
-withControl c x = made (c .buffer) (c .hand) (c .moved) (c .pointer) (c .armed) (c .registers) x (c .turn)
-
-abbrev pub withTurn : Controller → Turn → Controller
-withTurn c x = made (c .buffer) (c .hand) (c .moved) (c .pointer) (c .armed) (c .registers) (c .control) x

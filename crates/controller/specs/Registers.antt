@@ -2,7 +2,8 @@
 use mathlib.Core.Bool.{false}
 use Prim.Native.Nat.{ℕ, _+_, _%_}
 use lib.Dec.{eqb}
-use Rattle.controller.specs.Record.{place, withPlace, withHand, withPointer, withArmed, withRegisters}
+use Rattle.controller.specs.Record.{place}
+use Rattle.controller.specs.Setters.{withPlace, withHand, withPointer, withArmed, withRegisters}
 use Rattle.controller.specs.Reply.{Outcome, refuses, accepts}
 use Rattle.controller.specs.Reset.{writePreset}
 use Rattle.controller.specs.declared.record.Controller.{Controller}

@@ -1,11 +1,11 @@
 -- What an access or event answers (document 01, The controller record, and Refusals of an access or event).
 use Prim.Native.Nat.{ℕ}
-use Rattle.answer.specs.Number.{refusalOf, valueOf}
+use Rattle.answer.specs.Refusal.{refusalOf, valueOf}
 use Rattle.control.specs.declared.turn.Edge.the-variants.{Stop}
 use Rattle.control.specs.declared.turn.Edge.{Edge}
 use Rattle.control.specs.declared.turn.Turn.the-variants.{Host}
 use Rattle.control.specs.declared.turn.Turn.{Turn}
-use Rattle.controller.specs.Record.{withTurn, withHand}
+use Rattle.controller.specs.Setters.{withTurn, withHand}
 use Rattle.controller.specs.declared.record.Controller.{Controller}
 use Rattle.controller.specs.declared.reply.Reply.{Reply}
 

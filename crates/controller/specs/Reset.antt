@@ -5,7 +5,7 @@ use Prim.Native.Nat.{ℕ}
 use lib.Dec.{eqb}
 use lib.ListN.{replicate}
 use Rattle.control.specs.declared.turn.Turn.the-variants.{Off}
-use Rattle.controller.specs.Record.{withArmed}
+use Rattle.controller.specs.Setters.{withArmed}
 use Rattle.controller.specs.Reply.{Outcome, accepts}
 use Rattle.controller.specs.declared.record.Controller.{Controller}
 use Rattle.controller.specs.declared.record.Registers.{Registers}

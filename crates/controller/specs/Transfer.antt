@@ -9,7 +9,8 @@ use Rattle.address.specs.declared.number.Direction.{Direction}
 use Rattle.control.specs.Turn.{address, send, receive, slaveReceive, slaveSend, waits, calledOf}
 use Rattle.control.specs.declared.turn.Called.the-variants.{Own, General}
 use Rattle.control.specs.declared.turn.Called.{Called}
-use Rattle.controller.specs.Record.{place, byteCount, lastByte, withPlace, withMoved}
+use Rattle.controller.specs.Record.{place, byteCount, lastByte}
+use Rattle.controller.specs.Setters.{withPlace, withMoved}
 use Rattle.controller.specs.Reply.{Outcome, refuses, accepts, gives}
 use Rattle.controller.specs.declared.record.Controller.{Controller}
 use Rattle.notation.specs.Choice.{if_then_else_}

@@ -6,8 +6,8 @@ use control::turn::Edge;
 use control::turn::Turn;
 ghost use mathlib.Core.Path.{_≡_};
 ghost use Rattle.control.specs.declared.turn.Edge.the-variants.{Stop};
-ghost use Rattle.controller.specs.Record.{withTurn};
-ghost use Rattle.answer.specs.Number.{numberOf};
+ghost use Rattle.controller.specs.Setters.{withTurn};
+ghost use Rattle.answer.specs.Refusal.{refusalNumber};
 ghost use Rattle.controller.specs.Reply.{outcomeOf, refuses, accepts, waitsFor, interruptsAt};
 
 pub struct Reply {
@@ -18,7 +18,7 @@ pub struct Reply {
 impl Controller {
     // Refused: the record stays.
     pub(crate) fn refuse(self, why: Refusal) -> Reply
-        ensures { λ r. ⌜ outcomeOf r ≡ refuses self (numberOf why) ⌝ }
+        ensures { λ r. ⌜ outcomeOf r ≡ refuses self (refusalNumber why) ⌝ }
     {
         Reply {
             controller: self,

@@ -8,7 +8,7 @@ use borrow.Author.Tests.{eqb-true, not-true}
 use lib.Dec.{eqb}
 use Rattle.control.proofs.Turning.{status-idle}
 use Rattle.control.specs.Turn.{host, address, send, receive, dataTurns, kind}
-use Rattle.controller.proofs.Soundness.{moving}
+use Rattle.controller.proofs.SoundParts.{moving}
 use Rattle.controller.specs.Event.{badArgument, eventSound, eventOf}
 use Rattle.controller.specs.Record.{byteCount, place, sound}
 use Rattle.controller.specs.Reply.{Outcome, accepts}

@@ -7,7 +7,7 @@ use native.Mathlib.Nat.{le-of-suc-le-suc, not-suc-le-zero}
 use native.Mathlib.Omega.{arith}
 use lib.Dec.{eqb}
 use lib.ListN.{length, drop, getD, length-drop}
-use Rattle.answer.specs.Number.{numberOf as refusalNumber, refusalOf, valueOf}
+use Rattle.answer.specs.Refusal.{refusalNumber, refusalOf, valueOf}
 use Rattle.answer.specs.declared.Answer.the-variants.{Accepted, Refused as Rejected}
 use Rattle.answer.specs.declared.Answer.{Answer}
 use Rattle.answer.specs.declared.Refusal.the-variants.{OutOfRange, BadArgument, OnTheWire, Locked, Unlisted, BadCount, BufferEnd, Unexpected, Inaccessible, Unsound}

@@ -8,7 +8,8 @@ use lib.Dec.{eqb}
 use lib.ListN.{set}
 use Rattle.control.specs.Turn.{send, receive, waits}
 use Rattle.control.specs.declared.turn.Turn.{Turn}
-use Rattle.controller.specs.Record.{byteCount, place, sound, withBuffer}
+use Rattle.controller.specs.Record.{byteCount, place, sound}
+use Rattle.controller.specs.Setters.{withBuffer}
 use Rattle.controller.specs.Transfer.{counted}
 use Rattle.controller.specs.declared.record.Controller.{Controller}
 use Rattle.notation.specs.Choice.{if_then_else_, _and_}

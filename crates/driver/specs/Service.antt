@@ -8,6 +8,7 @@ use Rattle.address.specs.declared.number.Direction.the-variants.{Write, Read}
 use Rattle.address.specs.declared.number.Direction.{Direction}
 use Rattle.answer.specs.declared.ending.Ending.the-variants.{Done, AddressNacked, DataNacked, Lost, Fault}
 use Rattle.answer.specs.declared.ending.Ending.{Ending}
+use Rattle.control.specs.Turn.{faults}
 use Rattle.driver.specs.Work.{Access, writes, readsAll, readsCount, counts, Then, goesOn, awaits, ends, Work}
 use Rattle.driver.specs.declared.job.Job.{Job}
 use Rattle.notation.specs.Choice.{if_then_else_, among}
@@ -49,5 +50,5 @@ workAt job payload status count =
     else if eqb status 0x30 then stopping findsMoved DataNacked
     else if eqb status 0x58 then stopping (counts (job .n) ∷ readsAll ∷ []) Done
     else if eqb status 0x38 then ending (writes 3 0x40 ∷ []) Lost
-    else if among status (0x00 ∷ 0x70 ∷ 0x78 ∷ []) then ending [] Fault
+    else if among status faults then ending [] Fault
     else going []

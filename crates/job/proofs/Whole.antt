@@ -5,7 +5,7 @@ use Prim.Native.Nat.{ℕ, _≤_}
 use native.Mathlib.Omega.{arith}
 use lib.ListN.{length}
 use Rattle.console.proofs.Sizes.{text-size, text-fits}
-use Rattle.console.specs.Report.{reportText}
+use Rattle.console.specs.JobText.{reportText}
 use Rattle.control.specs.Flags.{flagsOf}
 use Rattle.control.specs.Turn.{kind, statusOf}
 use Rattle.control.specs.Writing.{response}

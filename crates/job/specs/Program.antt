@@ -4,7 +4,7 @@ use mathlib.Core.List.{List}
 use Prim.Native.Nat.{ℕ, _+_}
 use lib.Dec.{eqb, ltb}
 use lib.ListN.{length, getD, take, drop}
-use Rattle.console.specs.Report.{reportText}
+use Rattle.console.specs.JobText.{reportText}
 use Rattle.driver.specs.Run.{Report, declines, jobOf}
 use Rattle.driver.specs.declared.job.Job.{Job}
 use Rattle.notation.specs.Choice.{if_then_else_, _or_}

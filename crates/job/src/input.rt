@@ -9,7 +9,7 @@ use numbers::jobs::job_for;
 ghost use mathlib.Core.Path.{_≡_};
 ghost use Prim.Native.Nat.{_≤_};
 ghost use lib.ListN.{length};
-ghost use Rattle.console.specs.Report.{reportText};
+ghost use Rattle.console.specs.JobText.{reportText};
 ghost use Rattle.text.specs.Text.{Holds};
 ghost use Rattle.driver.specs.Run.{declines, jobOf};
 ghost use Rattle.numbers.specs.Jobs.{enabled};

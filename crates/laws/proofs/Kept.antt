@@ -9,8 +9,9 @@ use Rattle.control.specs.Turn.{off, host, free, busy, listen, dataTurns, kind, 
 use Rattle.control.specs.declared.turn.Edge.{Edge}
 use Rattle.control.specs.declared.turn.Turn.the-variants as turn
 use Rattle.control.specs.declared.turn.Turn.{Turn}
-use Rattle.controller.proofs.Soundness.{parts, whole}
-use Rattle.controller.specs.Record.{givenStatuses, hostSound, moveSound, sound, withTurn, withHand}
+use Rattle.controller.proofs.SoundParts.{parts, whole}
+use Rattle.controller.specs.Record.{givenStatuses, hostSound, moveSound, sound}
+use Rattle.controller.specs.Setters.{withTurn, withHand}
 use Rattle.controller.specs.Reply.{Outcome, refuses, accepts, waitsFor, interruptsAt}
 use Rattle.controller.specs.declared.record.Controller.{Controller}
 use Rattle.notation.proofs.Among.{is-true, has, among-has}

@@ -8,7 +8,7 @@ use borrow.Author.Tests.{eqb-false, ltb-false, le-leb, lt-ltb}
 use lib.Dec.{eqb, leb, ltb, lit≤}
 use Rattle.control.specs.Flags.{flagsOf}
 use Rattle.control.specs.Turn.{off, host, free, busy, listen, address, send, receive, slaveReceive, slaveSend, stopping, restarting, wireTurns, dataTurns, kind, statusOf, edgeOf}
-use Rattle.control.specs.Writing.{ends as endsAt, afterEdge, atStatus, response}
+use Rattle.control.specs.Writing.{endOr, afterEdge, respondsAt, response}
 use Rattle.control.specs.declared.flags.Control.{Control}
 use Rattle.control.specs.declared.turn.Edge.the-variants.{Stop, Start}
 use Rattle.control.specs.declared.turn.Edge.{Edge}
@@ -16,10 +16,11 @@ use Rattle.control.specs.declared.turn.Turn.the-variants as turn
 use Rattle.control.specs.declared.turn.Turn.{Turn}
 use Rattle.control.specs.declared.writing.Response.the-variants.{Next, Unlisted}
 use Rattle.control.specs.declared.writing.Response.{Response}
-use Rattle.controller.proofs.Soundness.{parts, whole}
+use Rattle.controller.proofs.SoundParts.{parts, whole}
 use Rattle.controller.specs.Access.{barsWrite, indirectAt, readSound, writeSound}
 use Rattle.controller.specs.I2ccon.{keeps, controlled, badCount, enabled, withoutStart, writeFlags, writeControl}
-use Rattle.controller.specs.Record.{place, byteCount, hostSound, moveSound, sound, withPlace, withHand, withPointer, withArmed, withRegisters}
+use Rattle.controller.specs.Record.{place, byteCount, hostSound, moveSound, sound}
+use Rattle.controller.specs.Setters.{withPlace, withHand, withPointer, withArmed, withRegisters}
 use Rattle.controller.specs.Registers.{wrote, writePointer, readData, writeData, stored, writeAtPointer}
 use Rattle.controller.specs.Reset.{reset, resetWith, completesReset, writePreset}
 use Rattle.controller.specs.declared.record.Controller.{Controller}
@@ -142,8 +143,8 @@ unlisted = record { clears = tt }
 leads : (t : Turn) → among (kind t) (host ∷ []) ≡ false → Clears (Next t)
 leads t h = record { clears = h }
 
-ends-clears : (k : Control) (r : Response) → Clears r → Clears (endsAt k r)
-unfolding endsAt kind
+ends-clears : (k : Control) (r : Response) → Clears r → Clears (endOr k r)
+unfolding endOr kind
 ends-clears k r h =
     choose (k .sto) _ _ (leads _ (among-has stopping (host ∷ []))) (choose (k .sta) _ _ (leads _ (among-has restarting (host ∷ []))) h)
 
@@ -152,8 +153,8 @@ unfolding afterEdge kind
 edge-clears Stop = leads _ (among-has free (host ∷ []))
 edge-clears Start = leads _ (among-has listen (host ∷ []))
 
-status-clears : (status : ℕ) (edge : Edge) (k : Control) → Clears (atStatus status edge k)
-unfolding atStatus kind
+status-clears : (status : ℕ) (edge : Edge) (k : Control) → Clears (respondsAt status edge k)
+unfolding respondsAt kind
 status-clears status edge k =
     choose _ _ _ (choose _ _ _ unlisted (leads _ (among-has address (host ∷ []))))
     (choose _ _ _ (ends-clears k _ (leads _ (among-has send (host ∷ []))))

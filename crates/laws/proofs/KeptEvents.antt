@@ -13,10 +13,11 @@ use Rattle.address.specs.declared.number.Direction.{Direction}
 use Rattle.control.specs.Turn.{send, receive, slaveReceive, slaveSend, dataTurns, kind, calledOf}
 use Rattle.control.specs.declared.turn.Called.the-variants as called
 use Rattle.control.specs.declared.turn.Called.{Called}
-use Rattle.controller.proofs.Soundness.{parts, whole, moving}
+use Rattle.controller.proofs.SoundParts.{parts, whole, moving}
 use Rattle.controller.specs.Condition.{withoutStop, ownStart, otherStart, otherStop, ownStop, addressed, addressByte, outbid, addressLost, dataLost, illegalEdge, dataHeld, clockHeld, idle}
 use Rattle.controller.specs.Event.{eventSound}
-use Rattle.controller.specs.Record.{byteCount, givenStatuses, moveSound, sound, withControl}
+use Rattle.controller.specs.Record.{byteCount, givenStatuses, moveSound, sound}
+use Rattle.controller.specs.Setters.{withControl}
 use Rattle.controller.specs.Transfer.{isLast, counted, dataOut, addressStatus, byteOut, acknowledgesLast, received, dataIn, slaveIn, byteIn, sentDirection}
 use Rattle.controller.specs.declared.record.Controller.{Controller}
 use Rattle.notation.proofs.Among.{has, within}

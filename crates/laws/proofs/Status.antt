@@ -8,7 +8,7 @@ use lib.Dec.{T, eqb}
 use Rattle.control.proofs.Turning.{status-idle}
 use Rattle.control.specs.Flags.{weighs, readsAs}
 use Rattle.control.specs.Turn.{host, wireTurns, kind, statusOf}
-use Rattle.controller.proofs.Soundness.{parts}
+use Rattle.controller.proofs.SoundParts.{parts}
 use Rattle.controller.specs.Access.{indirectAt, barsRead, readSound, readOf}
 use Rattle.controller.specs.Record.{interrupts, givenStatuses, hostSound, sound}
 use Rattle.controller.specs.Reply.{accepts}

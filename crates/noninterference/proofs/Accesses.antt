@@ -7,14 +7,15 @@ use native.Mathlib.Omega.{arith}
 use borrow.Author.Tests.{ne-eqb}
 use lib.Dec.{eqb}
 use Rattle.control.specs.Flags.{flagsOf}
-use Rattle.control.specs.Turn.{wireTurns, kind, statusOf}
+use Rattle.control.specs.Turn.{faults, wireTurns, kind, statusOf}
 use Rattle.control.specs.Writing.{response}
 use Rattle.control.specs.declared.flags.Control.{Control}
 use Rattle.control.specs.declared.turn.Turn.{Turn}
 use Rattle.control.specs.declared.writing.Response.the-variants.{Next}
 use Rattle.controller.specs.Access.{indirectAt, barsRead, barsWrite, readSound, readOf, writeSound, writeOf}
 use Rattle.controller.specs.I2ccon.{keeps, controlled, badCount, enabled, writeFlags, writeControl}
-use Rattle.controller.specs.Record.{place, sound, withPlace, withHand, withMoved, withPointer, withArmed, withRegisters, withControl, withTurn}
+use Rattle.controller.specs.Record.{place, sound}
+use Rattle.controller.specs.Setters.{withPlace, withHand, withMoved, withPointer, withArmed, withRegisters, withControl, withTurn}
 use Rattle.controller.specs.Registers.{wrote, writePointer, readData, writeData, stored, withCount, writeAtPointer}
 use Rattle.controller.specs.Reply.{Outcome, refuses, accepts}
 use Rattle.controller.specs.declared.record.Controller.{Controller}
@@ -27,15 +28,15 @@ abbrev pub controlledTo : Controller → Control → Turn → Controller
 controlledTo c k t = withArmed (withTurn (withControl (withMoved (withHand c 0) 0) (keeps (c .control) k t)) t) false
 
 -- an I2CCON write with ENSIO 1 that the rules list
-listed : (c : Controller) (value : ℕ) (t : Turn) → sound c ≡ true → among (kind (c .turn)) wireTurns ≡ false → among (statusOf (c .turn)) (0x00 ∷ 0x70 ∷ 0x78 ∷ []) ≡ false → flagsOf value .ensio ≡ true → response (c .turn) (flagsOf value) ≡ Next t → badCount c (flagsOf value) t ≡ false → writeOf c 3 value ≡ controlled c (flagsOf value) t
+listed : (c : Controller) (value : ℕ) (t : Turn) → sound c ≡ true → among (kind (c .turn)) wireTurns ≡ false → among (statusOf (c .turn)) faults ≡ false → flagsOf value .ensio ≡ true → response (c .turn) (flagsOf value) ≡ Next t → badCount c (flagsOf value) t ≡ false → writeOf c 3 value ≡ controlled c (flagsOf value) t
 unfolding writeOf writeSound indirectAt barsWrite writeControl writeFlags enabled if_then_else_ _and_ _or_
 listed c value t s w l e r b = rw (s, w, l, r, b, e)
 
-pub control-written : (c : Controller) (value : ℕ) (u t : Turn) → sound c ≡ true → c .turn ≡ u → among (kind u) wireTurns ≡ false → among (statusOf u) (0x00 ∷ 0x70 ∷ 0x78 ∷ []) ≡ false → flagsOf value .ensio ≡ true → response u (flagsOf value) ≡ Next t → badCount c (flagsOf value) t ≡ false → put c 3 value ≡ controlledTo c (flagsOf value) t
+pub control-written : (c : Controller) (value : ℕ) (u t : Turn) → sound c ≡ true → c .turn ≡ u → among (kind u) wireTurns ≡ false → among (statusOf u) faults ≡ false → flagsOf value .ensio ≡ true → response u (flagsOf value) ≡ Next t → badCount c (flagsOf value) t ≡ false → put c 3 value ≡ controlledTo c (flagsOf value) t
 unfolding put controlled wrote accepts
 control-written c value u t s h w l e r b =
     ap (λ (o : Outcome). o .next)
-    (listed c value t s (ap (λ (x : Turn). among (kind x) wireTurns) h ∙ w) (ap (λ (x : Turn). among (statusOf x) (0x00 ∷ 0x70 ∷ 0x78 ∷ [])) h ∙ l) e (ap (λ (x : Turn). response x (flagsOf value)) h ∙ r) b)
+    (listed c value t s (ap (λ (x : Turn). among (kind x) wireTurns) h ∙ w) (ap (λ (x : Turn). among (statusOf x) faults) h ∙ l) e (ap (λ (x : Turn). response x (flagsOf value)) h ∙ r) b)
 
 -- an I2CDAT write out of the wire turns
 abbrev pub dataWritten : Controller → ℕ → Controller

@@ -24,7 +24,8 @@ use Rattle.controller.specs.Access.{indirectAt, barsRead, barsWrite, readSound,
 use Rattle.controller.specs.Condition.{ownStart, otherStart, otherStop, ownStop, addressed, addressByte, outbid, addressLost, dataLost, illegalEdge, dataHeld, clockHeld, idle}
 use Rattle.controller.specs.Event.{badArgument, eventSound, eventOf}
 use Rattle.controller.specs.I2ccon.{badCount, controlled, enabled, writeFlags, writeControl}
-use Rattle.controller.specs.Record.{place, sound, moveSound, withBuffer, withHand, withTurn}
+use Rattle.controller.specs.Record.{place, sound, moveSound}
+use Rattle.controller.specs.Setters.{withBuffer, withHand, withTurn}
 use Rattle.controller.specs.Registers.{wrote, writePointer, readData, writeData, atPointer, writeAtPointer}
 use Rattle.controller.specs.Reply.{Outcome, refuses, accepts, waitsFor, interruptsAt}
 use Rattle.controller.specs.Reset.{resetWith, completesReset, writePreset}

@@ -7,7 +7,8 @@ use native.Mathlib.Omega.{arith}
 use lib.ListN.{length, take, drop, set, getD, length-set}
 use lib.Seq.{take-suc-set, append-snoc, drop-cons}
 use Rattle.control.specs.Turn.{wireTurns, kind}
-use Rattle.controller.specs.Record.{place, sound, withHand}
+use Rattle.controller.specs.Record.{place, sound}
+use Rattle.controller.specs.Setters.{withHand}
 use Rattle.controller.specs.Reply.{Outcome, accepts}
 use Rattle.controller.specs.declared.record.Controller.{Controller}
 use Rattle.block.specs.Block.{written}

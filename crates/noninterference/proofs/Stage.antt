@@ -13,7 +13,7 @@ use Rattle.address.specs.Number.{bitOf, byteOf}
 use Rattle.address.specs.declared.number.Direction.the-variants.{Write, Read}
 use Rattle.address.specs.declared.number.Direction.{Direction}
 use Rattle.control.specs.Turn.{free, busy, listen, address, send, receive, stopping, dataTurns, kind}
-use Rattle.controller.proofs.Soundness.{parts}
+use Rattle.controller.proofs.SoundParts.{parts}
 use Rattle.controller.specs.Record.{place, byteCount, sound, moveSound}
 use Rattle.controller.specs.Reply.{Outcome}
 use Rattle.controller.specs.declared.record.Controller.{Controller}

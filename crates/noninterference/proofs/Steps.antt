@@ -16,8 +16,8 @@ use Rattle.address.specs.declared.number.Direction.the-variants.{Write, Read}
 use Rattle.address.specs.declared.number.Direction.{Direction}
 use Rattle.control.proofs.Turning.{status-idle}
 use Rattle.control.specs.Flags.{flagsOf}
-use Rattle.control.specs.Turn.{host, free, busy, listen, address, send, receive, slaveReceive, slaveSend, stopping, restarting, wireTurns, dataTurns, kind, statusOf, edgeOf}
-use Rattle.control.specs.Writing.{response, ends as endsAt, atStatus as respondsAt}
+use Rattle.control.specs.Turn.{faults, host, free, busy, listen, address, send, receive, slaveReceive, slaveSend, stopping, restarting, wireTurns, dataTurns, kind, statusOf, edgeOf}
+use Rattle.control.specs.Writing.{response, endOr, respondsAt}
 use Rattle.control.specs.declared.flags.Control.{Control}
 use Rattle.control.specs.declared.turn.Edge.the-variants.{Stop}
 use Rattle.control.specs.declared.turn.Turn.the-variants as turn
@@ -26,7 +26,8 @@ use Rattle.control.specs.declared.writing.Response.the-variants.{Next}
 use Rattle.controller.specs.Condition.{ownStart, otherStart, otherStop, ownStop, matches, addressed, addressByte, outbid, addressLost, dataLost, illegalEdge, dataHeld, clockHeld, idle}
 use Rattle.controller.specs.Event.{eventSound, eventOf}
 use Rattle.controller.specs.I2ccon.{keeps, badCount}
-use Rattle.controller.specs.Record.{place, byteCount, sound, withHand, withTurn, withPointer, withArmed}
+use Rattle.controller.specs.Record.{place, byteCount, sound}
+use Rattle.controller.specs.Setters.{withHand, withTurn, withPointer, withArmed}
 use Rattle.controller.specs.Reply.{Outcome, refuses, accepts, waitsFor, interruptsAt, gives}
 use Rattle.controller.specs.Reset.{reset}
 use Rattle.controller.specs.Transfer.{cursor, isLast, counted, acknowledgesLast, received, dataOut, addressStatus, sentDirection, byteOut, dataIn, byteIn}
@@ -342,7 +343,7 @@ module _ (job : Job) (payload : List ℕ) (form : Formed job payload) (carried :
       and-no-right _ _ (and-no-right _ _ (or-false _ _ (ne-eqb (byteCount d) 0 (omega (arith, b, l))) (le-ltb 68 (byteCount d) (omega (arith, b, h)))))
 
   -- 50h at one of the end statuses: the driver waits for own STOP
-  stops-good : (carried′ : List ℕ) (sent′ : ℕ) (q : Progress) (h : Controller) (status : ℕ) (e : Ending) (count : ℕ) → sound h ≡ true → h .turn ≡ turn.Host status Stop → among status (0x00 ∷ 0x70 ∷ 0x78 ∷ []) ≡ false → respondsAt status Stop (flagsOf 0x50) ≡ Next turn.Stopping → h .registers .count ≡ countOf (job .direction) (job .n) → length (h .buffer) ≡ 68 → q .over ≡ false → length (q .fetched) ≡ 68 → sent′ ≤ limit (job .direction) (job .n) → (numberOf e ≡ 0 → job .direction ≡ Read → take (job .n) (q .fetched) ≡ carried′) → Good job payload carried′ sent′ (stops q h e count)
+  stops-good : (carried′ : List ℕ) (sent′ : ℕ) (q : Progress) (h : Controller) (status : ℕ) (e : Ending) (count : ℕ) → sound h ≡ true → h .turn ≡ turn.Host status Stop → among status faults ≡ false → respondsAt status Stop (flagsOf 0x50) ≡ Next turn.Stopping → h .registers .count ≡ countOf (job .direction) (job .n) → length (h .buffer) ≡ 68 → q .over ≡ false → length (q .fetched) ≡ 68 → sent′ ≤ limit (job .direction) (job .n) → (numberOf e ≡ 0 → job .direction ≡ Read → take (job .n) (q .fetched) ≡ carried′) → Good job payload carried′ sent′ (stops q h e count)
   unfolding kind statusOf edgeOf among response flagsOf keeps badCount if_then_else_ _and_
   stops-good carried′ sent′ q h status e count s t l r n b o f m z =
       let eq = control-written h 0x50 (turn.Host status Stop) turn.Stopping s t refl l refl r refl in
@@ -359,7 +360,7 @@ module _ (job : Job) (payload : List ℕ) (form : Formed job payload) (carried :
 
   -- 18h: the data are loaded, and the driver waits in Send
   sends-good : (carried′ : List ℕ) (q : Progress) (h : Controller) → job .direction ≡ Write → sound h ≡ true → h .turn ≡ turn.Host 0x18 Stop → h .hand ≡ 0 → h .registers .count ≡ countOf (job .direction) (job .n) → length (h .buffer) ≡ 68 → q .over ≡ false → length (q .fetched) ≡ 68 → Good job payload carried′ 1 (goesOn q (sends job payload h))
-  unfolding kind statusOf edgeOf among response respondsAt endsAt flagsOf keeps if_then_else_ _and_
+  unfolding kind statusOf edgeOf among response respondsAt endOr flagsOf keeps if_then_else_ _and_
   sends-good carried′ q h w s t z n b o f =
       let xs = take (job .n) payload in
       let size : length xs ≡ job .n = length-take-le (job .n) payload (form .given w) in
@@ -394,7 +395,7 @@ module _ (job : Job) (payload : List ℕ) (form : Formed job payload) (carried :
       omega (arith, e, l)
 
   -- 20h, 48h: the address was not acknowledged
-  nacked : (argument status value : ℕ) → eqb status 0xF8 ≡ false → among (kind (p .controller .turn)) (address ∷ []) ≡ true → among status (0x00 ∷ 0x70 ∷ 0x78 ∷ []) ≡ false → respondsAt status Stop (flagsOf 0x50) ≡ Next turn.Stopping → ((q : Progress) → atStatus job payload status q ≡ stops q (q .controller) ending.AddressNacked 0) → S 6 argument (gives (p .controller) status value)
+  nacked : (argument status value : ℕ) → eqb status 0xF8 ≡ false → among (kind (p .controller .turn)) (address ∷ []) ≡ true → among status faults ≡ false → respondsAt status Stop (flagsOf 0x50) ≡ Next turn.Stopping → ((q : Progress) → atStatus job payload status q ≡ stops q (q .controller) ending.AddressNacked 0) → S 6 argument (gives (p .controller) status value)
   unfolding taking
   nacked argument status value n t l r e =
       hosting 6 argument (p .controller) status value n refl refl
@@ -439,7 +440,7 @@ module _ (job : Job) (payload : List ℕ) (form : Formed job payload) (carried :
 
   -- 6, in Address: the address byte out
   address-out : (argument value : ℕ) → among (kind (p .controller .turn)) (address ∷ []) ≡ true → (d : Direction) → job .direction ≡ d → S 6 argument (gives (p .controller) (addressStatus d argument) value)
-  unfolding addressStatus respondsAt endsAt among flagsOf if_then_else_
+  unfolding addressStatus respondsAt endOr among flagsOf if_then_else_
   address-out argument value t Write w =
       split (λ (x : ℕ). S 6 argument (gives (p .controller) x value)) (eqb argument 1) 0x20 0x18 (λ _. nacked argument 0x20 value refl t refl refl at-20)
       (λ _. acked-write argument value t w)
@@ -481,7 +482,7 @@ module _ (job : Job) (payload : List ℕ) (form : Formed job payload) (carried :
         subst (λ (d : Direction). suc sent ≤ limit d (job .n)) (sym (f .1)) (omega (arith, b, n, k))
 
     data-nacked : (argument value : ℕ) → S 6 argument (gives (counted (p .controller)) 0x30 value)
-    unfolding taking respondsAt endsAt among flagsOf if_then_else_
+    unfolding taking respondsAt endOr among flagsOf if_then_else_
     data-nacked argument value =
         hosting 6 argument (counted (p .controller)) 0x30 value refl refl refl
         (λ s. let h = hosted (counted (p .controller)) 0x30 in
@@ -496,7 +497,7 @@ module _ (job : Job) (payload : List ℕ) (form : Formed job payload) (carried :
         nack-no-done z = omega (arith, z)
 
     data-done : (argument value : ℕ) → S 6 argument (gives (counted (p .controller)) 0x28 value)
-    unfolding taking respondsAt endsAt among flagsOf if_then_else_
+    unfolding taking respondsAt endOr among flagsOf if_then_else_
     data-done argument value =
         hosting 6 argument (counted (p .controller)) 0x28 value refl refl refl
         (λ s. let h = hosted (counted (p .controller)) 0x28 in
@@ -573,7 +574,7 @@ module _ (job : Job) (payload : List ℕ) (form : Formed job payload) (carried :
 
     -- 58h: the bytes are read back, and the driver waits for own STOP
     data-last : (argument : ℕ) → isLast (p .controller) ≡ true → S 7 argument (gives (received (p .controller) argument) 0x58 1)
-    unfolding taking received respondsAt endsAt among kind flagsOf if_then_else_
+    unfolding taking received respondsAt endOr among kind flagsOf if_then_else_
     data-last argument e =
         hosting 7 argument (received (p .controller) argument) 0x58 1 refl refl refl
         (λ s. let h = hosted (received (p .controller) argument) 0x58 in

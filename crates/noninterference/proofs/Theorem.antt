@@ -13,7 +13,7 @@ use Rattle.address.specs.declared.number.Direction.the-variants.{Write, Read}
 use Rattle.address.specs.declared.number.Direction.{Direction}
 use Rattle.control.proofs.Turning.{status-idle}
 use Rattle.control.specs.Flags.{flagsOf}
-use Rattle.control.specs.Turn.{off, host, free, wireTurns, kind}
+use Rattle.control.specs.Turn.{faults, off, host, free, wireTurns, kind}
 use Rattle.control.specs.Writing.{response}
 use Rattle.control.specs.declared.flags.Control.{Control}
 use Rattle.control.specs.declared.turn.Turn.{Turn}
@@ -21,7 +21,8 @@ use Rattle.control.specs.declared.writing.Response.the-variants.{Next}
 use Rattle.controller.specs.Access.{writeOf}
 use Rattle.controller.specs.Event.{eventOf}
 use Rattle.controller.specs.I2ccon.{keeps, badCount}
-use Rattle.controller.specs.Record.{sound, moveSound, withPointer, withArmed, withRegisters}
+use Rattle.controller.specs.Record.{sound, moveSound}
+use Rattle.controller.specs.Setters.{withPointer, withArmed, withRegisters}
 use Rattle.controller.specs.Registers.{withCount}
 use Rattle.controller.specs.Reply.{Outcome}
 use Rattle.controller.specs.declared.record.Controller.{Controller}
@@ -84,7 +85,7 @@ module _ (job : Job) (c : Controller) (s : sound c ≡ true) (f : among (kind (c
       let s₂ = subst (λ (d : Controller). sound d ≡ true) e₂ (put-sound _ 2 _ s₁) in
       ap (λ (d : Controller). put (put d 2 (countOf (job .direction) (job .n))) 3 0x60) e₁ ∙ ap (λ (d : Controller). put d 3 0x60) e₂ ∙
       control-written counted 0x60 (c .turn) (c .turn) s₂ refl off-wire
-      (ap (λ (x : ℕ). among x (0x00 ∷ 0x70 ∷ 0x78 ∷ [])) idle ∙ among-has 0xF8 (0x00 ∷ 0x70 ∷ 0x78 ∷ [])) refl (free-stays (c .turn) (flagsOf 0x60) f) refl
+      (ap (λ (x : ℕ). among x faults) idle ∙ among-has 0xF8 faults) refl (free-stays (c .turn) (flagsOf 0x60) f) refl
 
   begins-sound : sound begun-as ≡ true
   begins-sound = put-sound _ 3 0x60 (put-sound _ 2 _ (put-sound c 0 0 s))

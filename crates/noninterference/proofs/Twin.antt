@@ -7,7 +7,7 @@ use lib.Dec.{eqb}
 use lib.ListN.{length}
 use Rattle.controller.specs.Access.{readOf, writeOf}
 use Rattle.controller.specs.Event.{eventOf}
-use Rattle.controller.specs.Record.{withBuffer}
+use Rattle.controller.specs.Setters.{withBuffer}
 use Rattle.controller.specs.Reply.{Outcome}
 use Rattle.controller.specs.declared.record.Controller.{Controller}
 use Rattle.driver.specs.Run.{taking}

@@ -1,4 +1,4 @@
 -- Laws that the proofs here cite.
 pub mod Places
 pub mod Numbers
-pub mod Groups
+pub mod LogGroups

@@ -4,7 +4,7 @@ use mathlib.Core.Bool.{Bool}
 use mathlib.Core.List.{List, [], _∷_}
 use Prim.Native.Nat.{ℕ, _+_, _%_}
 use lib.Dec.{eqb}
-use Rattle.answer.specs.Number.{refusalOf, valueOf}
+use Rattle.answer.specs.Refusal.{refusalOf, valueOf}
 use Rattle.answer.specs.declared.Answer.{Answer}
 use Rattle.control.specs.Turn.{off, host, free, busy, listen, address, send, receive, slaveReceive, slaveSend, stopping, restarting}
 use Rattle.control.specs.declared.turn.Called.the-variants.{Own, General}

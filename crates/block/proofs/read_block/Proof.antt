@@ -9,7 +9,7 @@ use lib.ListN.{length, length-set}
 use denote.Ref.{now}
 use Rattle.controller.specs.Access.{readOf}
 use Rattle.block.specs.Block.{reachOf, afterReads, valuesRead}
-use Rattle.block.proofs.Access.{Gives, reach-most, reach-stays, read-inside, read-outside}
+use Rattle.block.proofs.DataAccess.{Gives, reach-most, reach-stays, read-inside, read-outside}
 use Rattle.block.proofs.Rounds.{read-one, read-done, lay-all, lay-one, lay-done}
 use Rattle.notation.proofs.Overlay.{at-start}
 use Rattle.notation.specs.Overlay.{laidAt}

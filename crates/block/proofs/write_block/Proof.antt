@@ -6,7 +6,7 @@ use borrow.Author.Needs.{needs}
 use lib.ListN.{length, drop, getD}
 use denote.Ref.{now}
 use Rattle.block.specs.Block.{reachOf, written}
-use Rattle.block.proofs.Access.{reach-most, reach-stays, write-inside}
+use Rattle.block.proofs.DataAccess.{reach-most, reach-stays, write-inside}
 use Rattle.block.proofs.Rounds.{write-one, write-done, write-full}
 use Rattle.block.proofs.write_block.Statement.{statement}
 use Rattle.block.proofs.write_block.Tie as tie

@@ -1,7 +1,7 @@
 -- `refused` is `refusalOf`: what is known at each return settles the tests of the definition.
 use mathlib.Core.Path.{_∙_}
 use borrow.Author.Needs.{needs}
-use Rattle.answer.specs.Number.{refusalOf}
+use Rattle.answer.specs.Refusal.{refusalOf}
 use Rattle.answer.proofs.Answer.refused.Statement.{statement}
 use Rattle.answer.proofs.Answer.refused.Tie as tie
 

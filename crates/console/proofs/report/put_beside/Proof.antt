@@ -2,7 +2,7 @@
 use mathlib.Core.Path.{sym, ap, _∙_}
 use Prim.Native.Nat.{ℕ}
 use lib.Dec.{eqb}
-use Rattle.console.specs.Report.{beside}
+use Rattle.console.specs.JobText.{beside}
 use Rattle.text.specs.Text.{decimalOf}
 use Rattle.notation.proofs.Cases.{if-true, if-false}
 use Rattle.text.proofs.Holds.{said, none, chain}

@@ -1,5 +1,5 @@
 -- `put_bytes_line` puts the word, the bytes and the end of the line.
-use Rattle.console.specs.Report.{bytesLine}
+use Rattle.console.specs.JobText.{bytesLine}
 use Rattle.text.proofs.Holds.{chain}
 use borrow.Author.Needs.{needs}
 use Rattle.console.proofs.report.put_bytes_line.Statement.{statement}

@@ -1,6 +1,6 @@
 -- `put_first_line` puts its words and numbers, one after the other.
 use mathlib.Core.Path.{ap}
-use Rattle.console.specs.Report.{firstLine}
+use Rattle.console.specs.JobText.{firstLine}
 use Rattle.text.specs.Text.{decimalOf}
 use Rattle.driver.specs.Run.{resultOf}
 use Rattle.text.proofs.Holds.{said, chain, same-room}

@@ -1,5 +1,5 @@
 -- `put_job` puts the three lines.
-use Rattle.console.specs.Report.{jobText}
+use Rattle.console.specs.JobText.{jobText}
 use Rattle.text.proofs.Holds.{chain}
 use borrow.Author.Needs.{needs}
 use Rattle.console.proofs.report.put_job.Statement.{statement}

@@ -16,7 +16,7 @@ returns c = search (at-turn off (c .before .before .args .turn) (c .before .matc
 
 returns-2 : tie.Need-returns-2
 unfolding response kind statusOf edgeOf among if_then_else_
-returns-2 c = c .at-status .ensures ∙ rw (c .before .before .turn .given .1)
+returns-2 c = c .respond-at .ensures ∙ rw (c .before .before .turn .given .1)
 
 returns-3 : tie.Need-returns-3
 unfolding response

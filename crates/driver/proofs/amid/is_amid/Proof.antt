@@ -2,7 +2,7 @@
 use mathlib.Core.Path.{sym, _∙_}
 use native.Mathlib.Omega.{arith}
 use borrow.Author.Needs.{needs}
-use Rattle.controller.proofs.Soundness.{parts}
+use Rattle.controller.proofs.SoundParts.{parts}
 use Rattle.driver.specs.Amid.{isAmid}
 use Rattle.notation.proofs.Cases.{and-on, cases}
 use Rattle.driver.proofs.amid.is_amid.Statement.{statement}

@@ -8,10 +8,10 @@ use borrow.Author.Needs.{needs}
 use lib.Dec.{eqb}
 use lib.ListN.{length, drop, getD}
 use denote.Ref.{now}
-use Rattle.answer.specs.Number.{refusalOf, valueOf}
+use Rattle.answer.specs.Refusal.{refusalOf, valueOf}
 use Rattle.answer.specs.declared.Answer.the-variants.{Accepted}
 use Rattle.answer.specs.declared.ending.Ending.the-variants.{Unfinished, Refused}
-use Rattle.controller.specs.Record.{withBuffer}
+use Rattle.controller.specs.Setters.{withBuffer}
 use Rattle.controller.specs.Reply.{outcomeOf, accepts}
 use Rattle.controller.specs.Transfer.{counted}
 use Rattle.controller.specs.declared.reply.Reply.{Reply}

@@ -9,6 +9,7 @@ use lib.ListN.{take}
 use denote.Ref.{now}
 use types.Run.{OneOf}
 use Rattle.answer.specs.declared.ending.Ending.the-variants.{AddressNacked, Fault}
+use Rattle.control.specs.Turn.{faults}
 use Rattle.driver.specs.Service.{going, stopping, ending, workAt}
 use Rattle.driver.specs.Work.{Work, writes, counts, ends, does, doesAll, follows, performs}
 use Rattle.driver.specs.declared.job.Job.{Job}
@@ -26,7 +27,7 @@ unfolding workAt among if_then_else_
 nacked job payload status count (inl e) = rw e
 nacked job payload status count (inr e) = rw e
 
-fault : (job : Job) (payload : List ℕ) (status count : ℕ) → OneOf (0x00 ∷ 0x70 ∷ 0x78 ∷ []) status → workAt job payload status count ≡ ending [] Fault
+fault : (job : Job) (payload : List ℕ) (status count : ℕ) → OneOf faults status → workAt job payload status count ≡ ending [] Fault
 unfolding workAt among if_then_else_
 fault job payload status count (inl e) = rw e
 fault job payload status count (inr (inl e)) = rw e
@@ -82,7 +83,7 @@ returns-10 : tie.Need-returns-10
 unfolding workAt performs doesAll follows
 returns-10 c =
     let args = c .before .before .before .args in
-    let nothing : workAt (args .job) (now (args .payload)) (args .status) (args .p .count) ≡ going [] = search (none-of (0x00 ∷ 0x70 ∷ 0x78 ∷ []) (c .before .before .before .args .status) (c .match .rest .1), ne-eqb (c .before .before .before .args .status) 0x38 (c .match .rest .0 .1), ne-eqb (c .before .before .before .args .status) 0x58 (c .match .rest .0 .0 .1), ne-eqb (c .before .before .before .args .status) 0x30 (c .match .rest .0 .0 .0 .1), ne-eqb (c .before .before .before .args .status) 0x28 (c .match .rest .0 .0 .0 .0 .1), none-of (0x20 ∷ 0x48 ∷ []) (c .before .before .before .args .status) (c .match .rest .0 .0 .0 .0 .0 .1), ne-eqb (c .before .before .before .args .status) 0x40 (c .match .rest .0 .0 .0 .0 .0 .0 .1), ne-eqb (c .before .before .before .args .status) 0x18 (c .match .rest .0 .0 .0 .0 .0 .0 .0 .1), ne-eqb (c .before .before .before .args .status) 0x08 (c .match .rest .0 .0 .0 .0 .0 .0 .0 .0 .1), cases) in
+    let nothing : workAt (args .job) (now (args .payload)) (args .status) (args .p .count) ≡ going [] = search (none-of faults (c .before .before .before .args .status) (c .match .rest .1), ne-eqb (c .before .before .before .args .status) 0x38 (c .match .rest .0 .1), ne-eqb (c .before .before .before .args .status) 0x58 (c .match .rest .0 .0 .1), ne-eqb (c .before .before .before .args .status) 0x30 (c .match .rest .0 .0 .0 .1), ne-eqb (c .before .before .before .args .status) 0x28 (c .match .rest .0 .0 .0 .0 .1), none-of (0x20 ∷ 0x48 ∷ []) (c .before .before .before .args .status) (c .match .rest .0 .0 .0 .0 .0 .1), ne-eqb (c .before .before .before .args .status) 0x40 (c .match .rest .0 .0 .0 .0 .0 .0 .1), ne-eqb (c .before .before .before .args .status) 0x18 (c .match .rest .0 .0 .0 .0 .0 .0 .0 .1), ne-eqb (c .before .before .before .args .status) 0x08 (c .match .rest .0 .0 .0 .0 .0 .0 .0 .0 .1), cases) in
     sym (ap (λ (w : Work). performs w (args .p)) nothing)
 
 pub at-status-spec : {M : Type 1} → statement M

@@ -1,7 +1,7 @@
 -- `put_bad` puts the lines of a job that is declined.
 use mathlib.Core.List.{[]}
 use Rattle.text.proofs.Holds.{said}
-use Rattle.console.specs.Report.{jobText}
+use Rattle.console.specs.JobText.{jobText}
 use Rattle.controller.specs.declared.record.Controller.{Controller}
 use Rattle.driver.specs.Run.{resultOf, declines}
 use mathlib.Core.Path.{ap}

@@ -2,7 +2,7 @@
 use mathlib.Core.Path.{ap}
 use denote.Ref.{now}
 use Rattle.text.proofs.Holds.{said}
-use Rattle.console.specs.Report.{reportText}
+use Rattle.console.specs.JobText.{reportText}
 use Rattle.controller.specs.declared.record.Controller.{Controller}
 use Rattle.driver.specs.Run.{jobOf}
 use borrow.Author.Needs.{needs}

@@ -4,7 +4,7 @@ use Prim.Native.Nat.{ℕ, _+_}
 use native.Mathlib.Omega.{arith}
 use denote.Ref.{now}
 use Rattle.text.proofs.Holds.{said}
-use Rattle.console.specs.Report.{reportText}
+use Rattle.console.specs.JobText.{reportText}
 use Rattle.job.proofs.Parts.{data-small, has-head, has-data, data-part, script-part, same-job}
 use Rattle.job.specs.Program.{programReport, programText}
 use Rattle.notation.proofs.Cases.{if-true, if-false}

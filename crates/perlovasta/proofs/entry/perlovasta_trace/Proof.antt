@@ -16,7 +16,7 @@ use Rattle.controller.specs.declared.record.Controller.{Controller}
 use Rattle.notation.specs.Choice.{_or_}
 use Rattle.notation.specs.Overlay.{laid}
 use Rattle.perlovasta.specs.Trace.{TraceCall, badTrace, logOf, traceCall}
-use Rattle.perlovasta.proofs.Groups.{same-room}
+use Rattle.perlovasta.proofs.LogGroups.{same-room}
 use Rattle.perlovasta.proofs.entry.perlovasta_trace.Statement.{statement}
 use Rattle.perlovasta.proofs.entry.perlovasta_trace.Tie as tie
 

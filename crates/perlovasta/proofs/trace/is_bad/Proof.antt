@@ -7,7 +7,7 @@ use denote.Ref.{now}
 use lib.ListN.{length, drop}
 use Rattle.notation.proofs.Cases.{or-left, or-on}
 use Rattle.perlovasta.specs.Trace.{badTrace}
-use Rattle.perlovasta.proofs.Groups.{bad-cut, bad-none, bad-group}
+use Rattle.perlovasta.proofs.LogGroups.{bad-cut, bad-none, bad-group}
 use Rattle.perlovasta.proofs.trace.is_bad.Statement.{statement}
 use Rattle.perlovasta.proofs.trace.is_bad.Tie as tie
 

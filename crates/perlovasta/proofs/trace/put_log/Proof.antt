@@ -15,7 +15,7 @@ use Rattle.notation.proofs.Overlay.{at-start, none}
 use Rattle.notation.specs.Overlay.{laid, laidAt}
 use Rattle.perlovasta.specs.Log.{leaves, entryOf}
 use Rattle.perlovasta.specs.Trace.{logOf}
-use Rattle.perlovasta.proofs.Groups.{entry-eight, refused-group, sound-group, log-none, log-group}
+use Rattle.perlovasta.proofs.LogGroups.{entry-eight, refused-group, sound-group, log-none, log-group}
 use Rattle.perlovasta.proofs.Places.{after-eight}
 use Rattle.perlovasta.proofs.trace.put_log.Statement.{statement}
 use Rattle.perlovasta.proofs.trace.put_log.Tie as tie

@@ -8,7 +8,7 @@ use Rattle.control.specs.Turn.{dataTurns, kind, calledOf, receive, slaveReceive
 use Rattle.controller.specs.Transfer.{byteIn}
 use Rattle.notation.proofs.Cases.{cases}
 use Rattle.notation.specs.Choice.{among, if_then_else_}
-use Rattle.controller.proofs.Soundness.{moving}
+use Rattle.controller.proofs.SoundParts.{moving}
 use Rattle.controller.proofs.record.Controller.byte_in.Statement.{statement}
 use Rattle.controller.proofs.record.Controller.byte_in.Tie as tie
 

@@ -7,7 +7,7 @@ use Rattle.control.proofs.Turning.{at-turn, at-turns, except}
 use Rattle.control.specs.Turn.{dataTurns, address, send, slaveSend}
 use Rattle.controller.specs.Transfer.{byteOut}
 use Rattle.notation.proofs.Cases.{cases}
-use Rattle.controller.proofs.Soundness.{moving}
+use Rattle.controller.proofs.SoundParts.{moving}
 use Rattle.controller.proofs.record.Controller.byte_out.Statement.{statement}
 use Rattle.controller.proofs.record.Controller.byte_out.Tie as tie
 

@@ -4,7 +4,7 @@ use native.Mathlib.Omega.{arith}
 use borrow.Author.Needs.{needs}
 use Rattle.controller.specs.Transfer.{received, dataIn}
 use Rattle.notation.proofs.Cases.{if-true, if-false}
-use Rattle.controller.proofs.Soundness.{cursor-below}
+use Rattle.controller.proofs.SoundParts.{cursor-below}
 use Rattle.controller.proofs.record.Controller.data_in.Statement.{statement}
 use Rattle.controller.proofs.record.Controller.data_in.Tie as tie
 

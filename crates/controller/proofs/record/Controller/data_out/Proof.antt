@@ -4,7 +4,7 @@ use native.Mathlib.Omega.{arith}
 use borrow.Author.Needs.{needs}
 use Rattle.controller.specs.Transfer.{dataOut}
 use Rattle.notation.proofs.Cases.{cases}
-use Rattle.controller.proofs.Soundness.{cursor-below}
+use Rattle.controller.proofs.SoundParts.{cursor-below}
 use Rattle.controller.proofs.record.Controller.data_out.Statement.{statement}
 use Rattle.controller.proofs.record.Controller.data_out.Tie as tie
 

@@ -5,7 +5,7 @@ use borrow.Author.Tests.{ne-eqb}
 use Rattle.controller.specs.Access.{readSound}
 use Rattle.notation.proofs.Among.{key-is}
 use Rattle.notation.proofs.Cases.{cases}
-use Rattle.controller.proofs.Soundness.{parts}
+use Rattle.controller.proofs.SoundParts.{parts}
 use Rattle.controller.proofs.record.Controller.read_sound.Statement.{statement}
 use Rattle.controller.proofs.record.Controller.read_sound.Tie as tie
 

@@ -1,6 +1,6 @@
 -- `refuse` is `outcomeOf`: what is known at each return settles the tests of the definition.
 use mathlib.Core.Path.{refl}
-use Rattle.answer.specs.Number.{refusalOf, valueOf}
+use Rattle.answer.specs.Refusal.{refusalOf, valueOf}
 use Rattle.controller.specs.Reply.{outcomeOf, refuses}
 use Rattle.controller.proofs.record.Controller.refuse.Statement.{statement}
 use Rattle.controller.proofs.record.Controller.refuse.Tie as tie

@@ -2,6 +2,7 @@
 use mathlib.Core.List.{[], _∷_}
 use mathlib.Core.Path.{_∙_}
 use borrow.Author.Needs.{needs}
+use Rattle.control.specs.Turn.{faults}
 use Rattle.controller.specs.I2ccon.{writeFlags}
 use Rattle.notation.proofs.Among.{keys-in, none-of}
 use Rattle.notation.proofs.Cases.{cases}
@@ -10,15 +11,15 @@ use Rattle.controller.proofs.record.Controller.write_flags.Tie as tie
 
 returns : tie.Need-returns
 unfolding writeFlags
-returns c = c .refuse .ensures ∙ rw (← (c .before .before .status .ensures)) (search (keys-in (0x00 ∷ 0x70 ∷ 0x78 ∷ []) (c .before .before .status .result) (c .before .match .keys1), cases))
+returns c = c .refuse .ensures ∙ rw (← (c .before .before .status .ensures)) (search (keys-in faults (c .before .before .status .result) (c .before .match .keys1), cases))
 
 returns-2 : tie.Need-returns-2
 unfolding writeFlags
-returns-2 c = c .enabled .ensures ∙ rw (c .before .respond .ensures, ← (c .before .before .before .before .status .ensures)) (search (none-of (0x00 ∷ 0x70 ∷ 0x78 ∷ []) (c .before .before .before .before .status .result) (c .before .before .before .match .rest .1), cases))
+returns-2 c = c .enabled .ensures ∙ rw (c .before .respond .ensures, ← (c .before .before .before .before .status .ensures)) (search (none-of faults (c .before .before .before .before .status .result) (c .before .before .before .match .rest .1), cases))
 
 returns-3 : tie.Need-returns-3
 unfolding writeFlags
-returns-3 c = c .controlled .ensures ∙ rw (← (c .before .before .before .status .ensures)) (search (none-of (0x00 ∷ 0x70 ∷ 0x78 ∷ []) (c .before .before .before .status .result) (c .before .before .match .rest .1), cases))
+returns-3 c = c .controlled .ensures ∙ rw (← (c .before .before .before .status .ensures)) (search (none-of faults (c .before .before .before .status .result) (c .before .before .match .rest .1), cases))
 
 pub write-flags-spec : {M : Type 1} → statement M
 write-flags-spec =

@@ -8,7 +8,7 @@ use native.Mathlib.Omega.{arith}
 use borrow.Author.Tests.{lt-ltb, le-ltb, ltb-true, ltb-false}
 use lib.Dec.{ltb}
 use lib.ListN.{length, drop, getD, length-drop, drop-of-length-le}
-use Rattle.answer.specs.Number.{refusalOf}
+use Rattle.answer.specs.Refusal.{refusalOf}
 use Rattle.controller.specs.Record.{sound}
 use Rattle.controller.specs.Reply.{Outcome, outcomeOf}
 use Rattle.controller.specs.declared.record.Controller.{Controller}

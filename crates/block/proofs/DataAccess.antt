@@ -8,7 +8,7 @@ use borrow.Author.Tests.{ne-eqb, eq-eqb}
 use lib.Dec.{eqb}
 use lib.ListN.{set}
 use Rattle.control.specs.Turn.{waits, wireTurns}
-use Rattle.controller.proofs.Soundness.{parts, whole}
+use Rattle.controller.proofs.SoundParts.{parts, whole}
 use Rattle.controller.specs.Access.{readOf, writeOf, readSound, writeSound, barsRead, barsWrite, indirectAt}
 use Rattle.controller.specs.Record.{place, sound, moveSound}
 use Rattle.controller.specs.Registers.{readData, writeData, wrote}
