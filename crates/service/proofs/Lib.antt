@@ -1,0 +1,3 @@
+-- Laws of acts and services that hold for every table.
+pub mod Blocks
+pub mod AnyTable

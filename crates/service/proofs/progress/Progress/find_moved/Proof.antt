@@ -1,0 +1,19 @@
+use Rattle.service.specs.Act.{does, doesAll}
+use borrow.Author.Needs.{needs}
+use Rattle.service.proofs.progress.Progress.find_moved.Statement.{statement}
+use Rattle.service.proofs.progress.Progress.find_moved.Tie as tie
+
+returns : tie.Need-returns
+unfolding doesAll does
+returns c = rw (c .go-on2 .ensures, c .before .put2 .ensures, c .before .before .before .count-read .ensures, c .before .before .before .before .go-on .ensures, c .before .before .before .before .before .put .ensures)
+
+pub find-moved-spec : {M : Type 1} → statement M
+find-moved-spec =
+    tie.close
+    (tie.spec
+    (λ c κs. search needs)
+    (λ c κs. search needs)
+    (λ c κs. search needs)
+    (λ c κs. search needs)
+    (λ c κs. search needs)
+    returns)

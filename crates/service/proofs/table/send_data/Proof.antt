@@ -1,0 +1,35 @@
+-- `send_data` writes the first n bytes and 41h: the first n bytes are the slice lent on, or the whole where there are no more.
+use mathlib.Core.List.{List}
+use mathlib.Core.Path.{sym, ap, _∙_}
+use Prim.Native.Nat.{ℕ}
+use native.Mathlib.Omega.{arith}
+use borrow.Author.Needs.{needs}
+use lib.Seq.{length-take-le, take-all}
+use denote.Ref.{now}
+use Rattle.controller.specs.declared.record.Controller.{Controller}
+use Rattle.block.specs.Block.{written}
+use Rattle.service.specs.Act.{put}
+use Rattle.service.proofs.table.send_data.Statement.{statement}
+use Rattle.service.proofs.table.send_data.Tie as tie
+
+slice-aggregate-write-block : tie.Need-slice-aggregate-write-block
+slice-aggregate-write-block c = sym (length-take-le (c .before .before .before .before .args .job .n) (c .before .before .before .before .args .payload .now) (omega arith))
+
+returns : tie.Need-returns
+returns c = c .put .ensures ∙ ap (λ (d : Controller). put d 3 0x41) (c .before .write-block .ensures)
+
+returns-2 : tie.Need-returns-2
+returns-2 c = c .put2 .ensures ∙ ap (λ (d : Controller). put d 3 0x41) (c .before .write-block2 .ensures ∙ ap (λ (l : List ℕ). written l (c .before .before .before .before .before .args .c)) (sym (take-all (c .before .before .before .before .before .args .job .n) (now (c .before .before .before .before .before .args .payload)) (c .before .before .if1 .left))))
+
+pub send-data-spec : {M : Type 1} → statement M
+send-data-spec =
+    tie.close
+    (tie.spec
+    (λ c. search needs)
+    slice-aggregate-write-block
+    (λ c κs. search needs)
+    (λ c κs. search needs)
+    (λ c κs. search needs)
+    (λ c κs. search needs)
+    returns
+    returns-2)

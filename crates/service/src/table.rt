@@ -1,0 +1,77 @@
+// The table of a read or write job: its first accesses, and what is done at each status.
+use crate::accesses::put;
+use crate::job::Job;
+use crate::progress::Progress;
+use address::number::Direction;
+use answer::ending::Ending;
+use block::write_block;
+use controller::record::Controller;
+ghost use mathlib.Core.Path.{_≡_};
+ghost use lib.ListN.{take};
+ghost use Rattle.address.specs.Number.{byteOf};
+ghost use Rattle.block.specs.Block.{written};
+ghost use Rattle.service.specs.Act.{put as writes, performs};
+ghost use Rattle.service.specs.JobSteps.{countOf};
+ghost use Rattle.service.specs.JobTable.{jobTable};
+
+// I2CCOUNT for n bytes: LB is set for a read.
+fn count_of(direction: Direction, n: u8) -> u8
+    ensures { λ r. ⌜ r ≡ countOf direction n ⌝ }
+{
+    match direction {
+        Direction::Write => n,
+        Direction::Read => 128 + n % 128,
+    }
+}
+
+// I2CCOUNT set, and a START asked for.
+pub(crate) fn begin(job: Job, c: Controller) -> Controller
+    ensures { λ r. ⌜ r ≡ writes (writes (writes c 0 0x00) 2 (countOf (job .direction) (job .n))) 3 0x60 ⌝ }
+{
+    let direction = job.direction;
+    let pointed = put(c, 0, 0x00);
+    let counted = put(pointed, 2, count_of(direction, job.n));
+    put(counted, 3, 0x60)
+}
+
+// 08h: the address byte.
+fn send_address(job: Job, c: Controller) -> Controller
+    ensures { λ r. ⌜ r ≡ writes (writes c 1 (byteOf (job .address) (job .direction) .0)) 3 0x40 ⌝ }
+{
+    let address = job.address;
+    let direction = job.direction;
+    let byte = address.byte(direction);
+    let loaded = put(c, 1, byte.0);
+    put(loaded, 3, 0x40)
+}
+
+// 18h: the data.
+fn send_data(job: Job, payload: &[u8], c: Controller) -> Controller
+    ensures { λ r. ⌜ r ≡ writes (written (take (job .n) (now (payload .entry))) c) 3 0x41 ⌝ }
+{
+    let n = job.n as usize;
+    if n < payload.len() {
+        put(write_block(c, &payload[..n]), 3, 0x41)
+    } else {
+        put(write_block(c, payload), 3, 0x41)
+    }
+}
+
+// The work at each status.
+pub(crate) fn work_at(job: Job, payload: &[u8], status: u8, p: Progress) -> Progress
+    ensures { λ r. ⌜ r ≡ performs (jobTable job (now (payload .entry)) status (p .count)) p ⌝ }
+{
+    let c = p.controller;
+    match status {
+        0x08 => p.go_on(send_address(job, c)),
+        0x18 => p.go_on(send_data(job, payload, c)),
+        0x40 => p.go_on(put(c, 3, 0x41)),
+        0x20 | 0x48 => p.counted(0).stop(Ending::AddressNacked),
+        0x28 => p.counted(job.n).stop(Ending::Done),
+        0x30 => p.find_moved().stop(Ending::DataNacked),
+        0x58 => p.counted(job.n).read_all().stop(Ending::Done),
+        0x38 => p.go_on(put(c, 3, 0x40)).end(Ending::Lost),
+        0x00 | 0x70 | 0x78 => p.end(Ending::Fault),
+        _ => p,
+    }
+}
