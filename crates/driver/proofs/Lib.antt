@@ -1,4 +1,4 @@
 -- Laws that the proofs here cite.
-pub mod Midway
-pub mod Steps
+pub mod Lists
+pub mod MidMove
 pub mod Script

@@ -1,6 +1,3 @@
--- Document 01, Jobs.
-pub mod Request
-pub mod Work
-pub mod Service
+-- Document 01, Jobs: the run over a script, and what a job gives.
 pub mod Run
-pub mod Amid
+pub mod FastPath

@@ -1,21 +1,21 @@
 -- Document 01, Jobs: the run over the script's pairs, and what the job gives.
-use mathlib.Core.Bool.{false}
 use mathlib.Core.List.{List, [], _∷_}
 use Prim.Native.Nat.{ℕ, _+_}
 use lib.Dec.{eqb}
-use lib.ListN.{length, take, replicate}
+use lib.ListN.{length, take}
 use Rattle.address.specs.Number.{bitOf}
 use Rattle.controller.specs.Event.{eventOf}
 use Rattle.controller.specs.declared.record.Controller.{Controller}
 use Rattle.answer.specs.Ending.{numberOf, besideOf}
-use Rattle.driver.specs.Request.{malformed, ready}
-use Rattle.driver.specs.Service.{begins, workAt}
-use Rattle.driver.specs.Work.{Access, Service, doesAll, serve}
-use Rattle.answer.specs.declared.ending.Ending.the-variants.{Unfinished}
-use Rattle.driver.specs.declared.job.Job.{Job}
-use Rattle.driver.specs.declared.job.JobResult.{JobResult}
-use Rattle.driver.specs.declared.progress.Progress.{Progress}
+use Rattle.driver.specs.declared.result.JobResult.{JobResult}
 use Rattle.notation.specs.Choice.{if_then_else_, _and_}
+use Rattle.service.specs.JobSteps.{begins}
+use Rattle.service.specs.JobTable.{jobTable}
+use Rattle.service.specs.Progress.{withRecord, withEvents}
+use Rattle.service.specs.Request.{malformed, ready}
+use Rattle.service.specs.Serve.{Table, starts, serve}
+use Rattle.service.specs.declared.job.Job.{Job}
+use Rattle.service.specs.declared.progress.Progress.{Progress}
 
 -- What a job answers, in the paper's numbers: the record, the answer, the number beside it, the count and the events used.
 pub record Result : Type 0 where
@@ -72,49 +72,19 @@ sending event value r = record {
 
 -- a pair is taken: the record after the event, and one event more used
 unfoldable pub taking : Progress → Controller → Progress
-taking p c = record {
-  controller = c;
-  over = p .over;
-  ending = p .ending;
-  count = p .count;
-  events = p .events + 1;
-  fetched = p .fetched;
-}
-
--- the record and the pairs taken, as they are now
-unfoldable pub reaching : Progress → Controller → ℕ → Progress
-reaching p c events = record {
-  controller = c;
-  over = p .over;
-  ending = p .ending;
-  count = p .count;
-  events = events;
-  fetched = p .fetched;
-}
+taking p c = withEvents (withRecord p c) (p .events + 1)
 
 -- "After each pair it does this work first, then looks for the next pair or the script's end. It takes pairs while the job lasts; later
 -- pairs aren't looked at." (A single byte left over is no pair; such a script is answered 21 before.)
-unfoldable pub run : Service → Progress → List ℕ → Run
-run service p [] = breaks p 27 0
-run service p (event ∷ []) = breaks p 27 0
-run service p (event ∷ argument ∷ rest) =
+unfoldable pub run : Table → Progress → List ℕ → Run
+run table p [] = breaks p 27 0
+run table p (event ∷ []) = breaks p 27 0
+run table p (event ∷ argument ∷ rest) =
     let o = eventOf (p .controller) event argument in
-    let q = serve service event (taking p (o .next)) in
+    let q = serve table event (taking p (o .next)) in
     if eqb (o .refused) 0
-    then sending event (o .value) (if q .over then closes q else run service q rest)
+    then sending event (o .value) (if q .over then closes q else run table q rest)
     else breaks p 28 (o .refused)
-
--- the driver as a job begins: its first accesses done, nothing read back, no pair taken. The ending noted is a placeholder, since own
--- STOP cannot come before 50h.
-unfoldable pub starts : List Access → Controller → Progress
-starts accesses c = doesAll accesses (record {
-  controller = c;
-  over = false;
-  ending = Unfinished;
-  count = 0;
-  events = 0;
-  fetched = replicate 68 0;
-})
 
 -- What a job gives: its result, "bytes sent and bytes handed up, both in order".
 pub record Report : Type 0 where
@@ -141,5 +111,5 @@ declines c answer = record {
 unfoldable pub jobOf : Job → List ℕ → ℕ → ℕ → List ℕ → Controller → Report
 jobOf job payload destinationLength outLength script c =
     if malformed job (length payload) destinationLength outLength (length script) then declines c 21
-    else if ready c then reports job (run (workAt job payload) (starts (begins job) c) script)
+    else if ready c then reports job (run (jobTable job payload) (starts (begins job) c) script)
     else declines c 22

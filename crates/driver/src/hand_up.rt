@@ -1,6 +1,6 @@
 // Handing up (document 01's term): the bytes of a finished read, written to the caller's destination.
-use crate::job::Job;
-use crate::progress::Progress;
+use service::job::Job;
+use service::progress::Progress;
 ghost use mathlib.Core.Path.{_≡_};
 ghost use Prim.Native.Nat.{_≤_};
 ghost use lib.ListN.{take};

@@ -1,45 +1,32 @@
-// A job, and what it gives.
-use crate::checks::is_malformed;
-use crate::checks::is_ready;
+// A job, run.
 use crate::hand_up::hand_up;
-use crate::pairs::work;
-use crate::progress::Progress;
-use address::number::Address;
-use address::number::Direction;
+use crate::pairs::run_pairs;
+use crate::result::JobResult;
+use crate::result::result_of;
 use answer::ending::Ending;
 use controller::record::Controller;
+use service::checks::is_malformed;
+use service::checks::is_ready;
+use service::job::Job;
+use service::serve::start;
 ghost use mathlib.Core.Path.{_≡_};
 ghost use lib.ListN.{length};
 ghost use Rattle.answer.specs.Ending.{numberOf, besideOf};
 ghost use Rattle.driver.specs.Run.{jobOf, resultOf, declines};
 ghost use Rattle.notation.specs.Overlay.{laid};
 
-// Write or read, to or from this address, this many bytes.
-pub struct Job {
-    pub direction: Direction,
-    pub address: Address,
-    pub n: u8,
-}
-
-// What a job gives beside the bytes.
-pub struct JobResult {
-    pub controller: Controller,
-    pub ending: Ending,
-    pub count: u8,
-    // Pairs of the script that were taken.
-    pub events: usize,
-}
-
 // A job that is not begun.
 fn decline(controller: Controller, ending: Ending) -> JobResult
     requires { ⌜ besideOf ending ≡ 0 ⌝ }
-    ensures { λ r. ⌜ resultOf r ≡ (declines controller (numberOf ending)) .result ⌝ }
+    ensures result { λ r. ⌜ resultOf r ≡ (declines controller (numberOf ending)) .result ⌝ }
+    ensures sent { λ r. ⌜ r .sent ≡ 0 ⌝ }
 {
     JobResult {
         controller,
         ending,
         count: 0,
         events: 0,
+        sent: 0,
     }
 }
 
@@ -55,6 +42,7 @@ pub fn run_job(
     ensures result { λ r. ⌜ resultOf r ≡ (jobOf job (now (payload .entry)) (length (now (destination .entry))) (length (now (out .entry))) (now (script .entry)) c) .result ⌝ }
     ensures handed { λ _. ⌜ now (destination .exit) ≡ laid ((jobOf job (now (payload .entry)) (length (now (destination .entry))) (length (now (out .entry))) (now (script .entry)) c) .handed) (now (destination .entry)) ⌝ }
     ensures sent { λ _. ⌜ now (out .exit) ≡ laid ((jobOf job (now (payload .entry)) (length (now (destination .entry))) (length (now (out .entry))) (now (script .entry)) c) .sent) (now (out .entry)) ⌝ }
+    ensures number { λ r. ⌜ r .sent ≡ length ((jobOf job (now (payload .entry)) (length (now (destination .entry))) (length (now (out .entry))) (now (script .entry)) c) .sent) ⌝ }
 {
     if is_malformed(
         job,
@@ -66,9 +54,10 @@ pub fn run_job(
         return decline(c, Ending::Malformed);
     }
     if is_ready(c) {
-        let end = work(Progress::start(job, c), job, payload, out, script);
-        hand_up(job, end, destination);
-        end.result()
+        let end = run_pairs(start(job, c), job, payload, out, script);
+        let p = end.progress;
+        hand_up(job, p, destination);
+        result_of(p, end.sent)
     } else {
         decline(c, Ending::NotReady)
     }

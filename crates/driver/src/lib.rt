@@ -1,10 +1,7 @@
-// The driver: one read or write job against the controller, worked over a script of bus events.
-mod accesses;
-mod amid;
-mod checks;
-mod course;
+// The driver: one read or write job against the controller, run over a script of bus events.
+mod fast_path;
 mod hand_up;
 pub mod job;
+mod out_record;
 mod pairs;
-pub mod progress;
-mod service;
+pub mod result;

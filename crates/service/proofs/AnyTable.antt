@@ -8,8 +8,27 @@ use borrow.Author.Tests.{not-false}
 use lib.Dec.{eqb}
 use Rattle.notation.proofs.Cases.{if-true, if-false, or-left-off, or-right-off}
 use Rattle.notation.specs.Choice.{if_then_else_}
-use Rattle.service.specs.Act.{Act, writes, readsData, readsAll, readsCount, counts, Then, goesOn, awaits, ends, finishes,
-    reads, fetchOne, fetch, readTimes, does, doesAll, follows, performs}
+use Rattle.service.specs.Act.{
+  Act,
+  writes,
+  readsData,
+  readsAll,
+  readsCount,
+  counts,
+  Then,
+  goesOn,
+  awaits,
+  ends,
+  finishes,
+  reads,
+  fetchOne,
+  fetch,
+  readTimes,
+  does,
+  doesAll,
+  follows,
+  performs,
+}
 use Rattle.service.specs.Serve.{Table, serve, hasWork}
 use Rattle.service.specs.declared.progress.Progress.{Progress}
 

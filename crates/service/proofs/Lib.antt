@@ -1,3 +1,4 @@
--- Laws of acts and services that hold for every table.
+-- Laws that hold of every table, and of every job that is not answered 21.
 pub mod Blocks
 pub mod AnyTable
+pub mod Formed

@@ -1,5 +1,5 @@
 -- `decline` is `declines`: the ending has no number beside it.
-use mathlib.Core.Path.{ap}
+use mathlib.Core.Path.{refl, ap}
 use Prim.Native.Nat.{ℕ}
 use Rattle.answer.specs.Ending.{numberOf}
 use Rattle.driver.specs.Run.{resultOf, declines}
@@ -8,7 +8,9 @@ use Rattle.driver.proofs.job.decline.Tie as tie
 
 returns : tie.Need-returns
 unfolding resultOf declines
-returns c = ap (λ (n : ℕ). record { next = c .args .controller; answer = numberOf (c .args .ending); refused = n; count = 0; events = 0 }) (c .pre)
+returns c =
+    let answer = numberOf (c .args .ending) in
+    (ap (λ (n : ℕ). record { next = c .args .controller; answer = answer; refused = n; count = 0; events = 0 }) (c .pre), refl)
 
 pub decline-spec : {M : Type 1} → statement M
 decline-spec = tie.close (tie.spec returns)

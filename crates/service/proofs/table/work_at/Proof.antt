@@ -91,10 +91,18 @@ returns-10 c =
     let status = args .status in
     let rest = c .match .rest in
     let nothing : jobTable (args .job) (now (args .payload)) status (args .p .count) ≡ goOnAfter [] =
-        search (none-of faults status (rest .1), ne-eqb status 0x38 (rest .0 .1), ne-eqb status 0x58 (rest .0 .0 .1),
-        ne-eqb status 0x30 (rest .0 .0 .0 .1), ne-eqb status 0x28 (rest .0 .0 .0 .0 .1),
-        none-of (0x20 ∷ 0x48 ∷ []) status (rest .0 .0 .0 .0 .0 .1), ne-eqb status 0x40 (rest .0 .0 .0 .0 .0 .0 .1),
-        ne-eqb status 0x18 (rest .0 .0 .0 .0 .0 .0 .0 .1), ne-eqb status 0x08 (rest .0 .0 .0 .0 .0 .0 .0 .0 .1), cases) in
+    search (
+      none-of faults status (rest .1),
+      ne-eqb status 0x38 (rest .0 .1),
+      ne-eqb status 0x58 (rest .0 .0 .1),
+      ne-eqb status 0x30 (rest .0 .0 .0 .1),
+      ne-eqb status 0x28 (rest .0 .0 .0 .0 .1),
+      none-of (0x20 ∷ 0x48 ∷ []) status (rest .0 .0 .0 .0 .0 .1),
+      ne-eqb status 0x40 (rest .0 .0 .0 .0 .0 .0 .1),
+      ne-eqb status 0x18 (rest .0 .0 .0 .0 .0 .0 .0 .1),
+      ne-eqb status 0x08 (rest .0 .0 .0 .0 .0 .0 .0 .0 .1),
+      cases,
+    ) in
     sym (ap (λ (w : Work). performs w (args .p)) nothing)
 
 pub work-at-spec : {M : Type 1} → statement M

@@ -7,23 +7,23 @@ use borrow.Author.Tests.{eqb-true}
 use lib.Dec.{eqb}
 use lib.ListN.{getD}
 use denote.Ref.{now}
-use Rattle.driver.specs.Amid.{bufferAfter}
+use Rattle.driver.specs.FastPath.{bufferAfter}
 use Rattle.notation.proofs.Cases.{if-true, if-false}
 use Rattle.notation.specs.Overlay.{laidAt}
-use Rattle.driver.proofs.amid.pass.Statement.{statement}
-use Rattle.driver.proofs.amid.pass.Tie as tie
+use Rattle.driver.proofs.fast_path.pass.Statement.{statement}
+use Rattle.driver.proofs.fast_path.pass.Tie as tie
 
 returns : tie.Need-returns
 unfolding bufferAfter
 returns c =
-    let s = c .before .before in
-    let at = s .args .at in
-    let out = now (s .args .out) in
-    let taken = c .if1 .taken in (
-      sym (if-true _ _ _ taken),
+    let s = c .before .before .args in
+    let seven = c .if1 .taken in
+    let not-six = ap (λ (n : ℕ). eqb n 6) (eqb-true (s .event) 7 seven) in
+    let byte = getD (now (s .buffer)) (s .moved) 0 in (
+      sym (if-true _ _ _ seven),
       (
-        (s .pre .1, refl),
-        λ later. sym (ap (λ (l : List ℕ). laidAt at l out) (if-false (eqb (s .args .event) 6) (getD (now (s .args .buffer)) (s .args .moved) 0 ∷ later) later (ap (λ (n : ℕ). eqb n 6) (eqb-true (s .args .event) 7 taken)))),
+        sym (if-false _ _ _ not-six),
+        (refl, λ later. sym (ap (λ (l : List ℕ). laidAt (s .sent) l (now (s .out))) (if-false (eqb (s .event) 6) (byte ∷ later) later not-six))),
       ),
     )
 

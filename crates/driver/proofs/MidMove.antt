@@ -1,4 +1,4 @@
--- What the rules make of a pair amid a buffered move: it is accepted, its byte is moved and counted, and the driver waits on. Assumes
+-- What the rules make of a pair in the middle of a buffered move: it is accepted, its byte is moved and counted, and the driver waits on. Assumes
 -- nothing.
 use mathlib.Core.Bool.{Bool, true, false, not, false≢true}
 use mathlib.Core.List.{List, [], _∷_}
@@ -14,18 +14,19 @@ use Rattle.controller.specs.Record.{byteCount, place, sound}
 use Rattle.controller.specs.Reply.{Outcome, accepts}
 use Rattle.controller.specs.Transfer.{cursor, isLast, counted, dataOut, byteOut, received, dataIn, byteIn}
 use Rattle.controller.specs.declared.record.Controller.{Controller}
-use Rattle.driver.specs.Amid.{carries, isAmid, bufferAfter, amidNext, amidValue}
-use Rattle.driver.specs.Work.{reads, hasWork}
+use Rattle.driver.specs.FastPath.{movesByte, isMidMove, bufferAfter, midMoveNext, midMoveValue}
 use Rattle.laws.proofs.Soundness.{event-stays-sound}
 use Rattle.laws.proofs.Status.{status-reads}
 use Rattle.notation.proofs.Cases.{if-true, if-false, and-left, and-right, split}
 use Rattle.notation.specs.Choice.{if_then_else_, _or_, among}
+use Rattle.service.specs.Act.{reads}
+use Rattle.service.specs.Serve.{hasWork}
 
 -- what such a pair does, and that the driver has no work after it
 pub record Passes (event argument : ℕ) (c : Controller) : Type 0 where
   pub below : c .moved < 68
-  pub given : eventOf c event argument ≡ accepts (amidNext event argument c) (amidValue event c)
-  pub waiting : hasWork event (amidNext event argument c) ≡ false
+  pub given : eventOf c event argument ≡ accepts (midMoveNext event argument c) (midMoveValue event c)
+  pub waiting : hasWork event (midMoveNext event argument c) ≡ false
 
 -- the one number listed
 only : (x k : ℕ) → among x (k ∷ []) ≡ true → x ≡ k
@@ -63,12 +64,12 @@ module _ (c : Controller) (mode : c .control .mode ≡ true) (s : sound c ≡ tr
     unfolding byteIn dataIn among if_then_else_
     byte-in = if-true _ _ _ (by-kind t true (receive ∷ []) refl) ∙ if-false _ _ _ not-last
 
-    given-in : eventOf c 7 argument ≡ accepts (amidNext 7 argument c) (amidValue 7 c)
-    unfolding eventOf badArgument eventSound if_then_else_ _or_ received amidNext amidValue bufferAfter
+    given-in : eventOf c 7 argument ≡ accepts (midMoveNext 7 argument c) (midMoveValue 7 c)
+    unfolding eventOf badArgument eventSound if_then_else_ _or_ received midMoveNext midMoveValue bufferAfter
     given-in = if-true _ _ _ s ∙ byte-in ∙ rw at-moved
 
     comes-in : Passes 7 argument c
-    unfolding hasWork _or_ amidNext among if_then_else_
+    unfolding hasWork _or_ midMoveNext among if_then_else_
     comes-in = record {
       below = moving c s (by-kind t true dataTurns refl);
       given = given-in;
@@ -82,12 +83,12 @@ module _ (c : Controller) (mode : c .control .mode ≡ true) (s : sound c ≡ tr
     byte-out =
         if-false _ _ _ (by-kind t false (address ∷ []) refl) ∙ if-true _ _ _ (by-kind t true (send ∷ []) refl) ∙ if-false _ _ _ not-last
 
-    given-out : eventOf c 6 0 ≡ accepts (amidNext 6 0 c) (amidValue 6 c)
-    unfolding eventOf badArgument eventSound if_then_else_ _or_ amidNext amidValue bufferAfter
+    given-out : eventOf c 6 0 ≡ accepts (midMoveNext 6 0 c) (midMoveValue 6 c)
+    unfolding eventOf badArgument eventSound if_then_else_ _or_ midMoveNext midMoveValue bufferAfter
     given-out = if-true _ _ _ s ∙ byte-out ∙ rw at-moved
 
     goes-out : Passes 6 0 c
-    unfolding hasWork _or_ amidNext among if_then_else_
+    unfolding hasWork _or_ midMoveNext among if_then_else_
     goes-out = record {
       below = moving c s (by-kind t true dataTurns refl);
       given = given-out;
@@ -95,8 +96,8 @@ module _ (c : Controller) (mode : c .control .mode ≡ true) (s : sound c ≡ tr
     }
 
   -- by the turn and the event
-  by-turn : (event argument : ℕ) → carries (c .turn) event argument ≡ true → Passes event argument c
-  unfolding carries
+  by-turn : (event argument : ℕ) → movesByte (c .turn) event argument ≡ true → Passes event argument c
+  unfolding movesByte
   by-turn event argument =
       split P (among (kind (c .turn)) (receive ∷ [])) _ _
       (λ t e. subst (λ (n : ℕ). Passes n argument c) (sym (eqb-true event 7 e)) (comes-in argument (only _ receive t)))
@@ -109,13 +110,13 @@ module _ (c : Controller) (mode : c .control .mode ≡ true) (s : sound c ≡ tr
       P : Bool → Type 0
       P carried = carried ≡ true → Passes event argument c
 
-pub passes-amid : (event argument : ℕ) (c : Controller) → isAmid event argument c ≡ true → Passes event argument c
-unfolding isAmid
-passes-amid event argument c h =
-    let h₁ = and-right (carries (c .turn) event argument) _ h in
+pub passes-mid-move : (event argument : ℕ) (c : Controller) → isMidMove event argument c ≡ true → Passes event argument c
+unfolding isMidMove
+passes-mid-move event argument c h =
+    let h₁ = and-right (movesByte (c .turn) event argument) _ h in
     let h₂ = and-right (c .control .mode) _ h₁ in
     by-turn c (and-left (c .control .mode) _ h₁) (and-left (sound c) _ h₂) (not-true _ (and-right (sound c) _ h₂)) event argument
-    (and-left (carries (c .turn) event argument) _ h)
+    (and-left (movesByte (c .turn) event argument) _ h)
 
 -- the byte noted is the value, where one is noted
 pub noted : (b : Bool) (x : ℕ) (later : List ℕ) → (if b then x ∷ later else later) ≡ (if b then (if b then x else 0) ∷ later else later)
