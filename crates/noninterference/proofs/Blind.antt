@@ -50,15 +50,18 @@ refusing : (c : Controller) (b : List ℕ) (n : ℕ) → Blind c (refuses c n) (
 unfolding refuses
 refusing c b n = record { next = refl; refused = refl; value = refl; sized = refl }
 
-accepting : (c d : Controller) (b : List ℕ) (v v′ : ℕ) → v ≡ v′ → length (d .buffer) ≡ length (c .buffer) → Blind c (accepts d v) (accepts (withBuffer d b) v′)
+accepting : (c d : Controller) (b : List ℕ) (v v′ : ℕ) → v ≡ v′ → length (d .buffer) ≡ length (c .buffer) →
+    Blind c (accepts d v) (accepts (withBuffer d b) v′)
 unfolding accepts
 accepting c d b v v′ w h = record { next = refl; refused = refl; value = w; sized = h }
 
-waiting : (c d : Controller) (b : List ℕ) (t : Turn) (v : ℕ) → length (d .buffer) ≡ length (c .buffer) → Blind c (waitsFor d t v) (waitsFor (withBuffer d b) t v)
+waiting : (c d : Controller) (b : List ℕ) (t : Turn) (v : ℕ) → length (d .buffer) ≡ length (c .buffer) →
+    Blind c (waitsFor d t v) (waitsFor (withBuffer d b) t v)
 unfolding waitsFor
 waiting c d b t v h = accepting c _ b v v refl h
 
-interrupting : (c d : Controller) (b : List ℕ) (s s′ : ℕ) (e : Edge) (v v′ : ℕ) → s ≡ s′ → v ≡ v′ → length (d .buffer) ≡ length (c .buffer) → Blind c (interruptsAt d s e v) (interruptsAt (withBuffer d b) s′ e v′)
+interrupting : (c d : Controller) (b : List ℕ) (s s′ : ℕ) (e : Edge) (v v′ : ℕ) → s ≡ s′ → v ≡ v′ →
+    length (d .buffer) ≡ length (c .buffer) → Blind c (interruptsAt d s e v) (interruptsAt (withBuffer d b) s′ e v′)
 unfolding interruptsAt accepts
 interrupting c d b s s′ e v v′ q w h =
     record { next = ap (λ (n : ℕ). blank (withHand (withTurn d (Host n e)) 0)) q; refused = refl; value = w; sized = h }
@@ -183,7 +186,8 @@ pub record Reading (c : Controller) (b : List ℕ) : Type 0 where
   pub moved : among (kind (c .turn)) (send ∷ slaveSend ∷ []) ≡ true → place c (cursor c) ≡ getD b (cursor c) 0
 
 -- a choice between rules, each knowing the test's outcome
-branch : (c : Controller) (x : Bool) (o o′ p p′ : Outcome) → (x ≡ true → Blind c o o′) → (x ≡ false → Blind c p p′) → Blind c (if x then o else p) (if x then o′ else p′)
+branch : (c : Controller) (x : Bool) (o o′ p p′ : Outcome) → (x ≡ true → Blind c o o′) → (x ≡ false → Blind c p p′) →
+    Blind c (if x then o else p) (if x then o′ else p′)
 unfolding if_then_else_
 branch c true o o′ p p′ f g = f refl
 branch c false o o′ p p′ f g = g refl
@@ -196,7 +200,8 @@ outbid-found c b (Own Read) = search ends
 outbid-found c b Nothing = search ends
 
 -- the same choice where the second test reads the byte
-both : (c : Controller) (x y y′ : Bool) (o o′ p p′ : Outcome) → (x ≡ true → y ≡ y′) → Blind c o o′ → Blind c p p′ → Blind c (if x and y then o else p) (if x and y′ then o′ else p′)
+both : (c : Controller) (x y y′ : Bool) (o o′ p p′ : Outcome) → (x ≡ true → y ≡ y′) → Blind c o o′ → Blind c p p′ →
+    Blind c (if x and y then o else p) (if x and y′ then o′ else p′)
 unfolding _and_
 both c true y y′ o o′ p p′ e f g = subst (λ z. Blind c (if y then o else p) (if z then o′ else p′)) (e refl) (either c y o o′ p p′ f g)
 both c false y y′ o o′ p p′ e f g = either c false o o′ p p′ f g
@@ -206,7 +211,8 @@ unfolding addressLost
 address-lost c b byte r =
     both c _ _ _ _ _ _ _ (λ t. ap (ltb byte) (r .address t)) (outbid-found c b _) (refusing c b 8)
 
-data-out : (c : Controller) (b : List ℕ) (nack broken done : ℕ) → place c (cursor c) ≡ getD b (cursor c) 0 → Blind c (dataOut c nack broken done) (dataOut (withBuffer c b) nack broken done)
+data-out : (c : Controller) (b : List ℕ) (nack broken done : ℕ) → place c (cursor c) ≡ getD b (cursor c) 0 →
+    Blind c (dataOut c nack broken done) (dataOut (withBuffer c b) nack broken done)
 unfolding dataOut isLast cursor
 data-out c b nack broken done e = search (e, ends)
 
@@ -227,7 +233,8 @@ unfolding writeOf sound moveSound
 write-blind c b register value = search (write-sound, ends)
 
 -- events 1 to 13
-event-sound : (c : Controller) (b : List ℕ) (number argument : ℕ) → (among number (6 ∷ 8 ∷ []) ≡ true → Reading c b) → Blind c (eventSound c number argument) (eventSound (withBuffer c b) number argument)
+event-sound : (c : Controller) (b : List ℕ) (number argument : ℕ) → (among number (6 ∷ 8 ∷ []) ≡ true → Reading c b) →
+    Blind c (eventSound c number argument) (eventSound (withBuffer c b) number argument)
 unfolding eventSound
 event-sound c b number argument r =
     either c (eqb number 1) _ _ _ _ (own-start c b)
@@ -247,7 +254,8 @@ event-sound c b number argument r =
     reading k t e = among-has number (6 ∷ 8 ∷ []) ∙ ap (has (6 ∷ 8 ∷ [])) (eqb-true number k e) ∙ is-true _ t
 
 -- Every event, of any record; events 6 and 8 where the byte that they read is the same.
-pub event-blind : (c : Controller) (b : List ℕ) (number argument : ℕ) → (among number (6 ∷ 8 ∷ []) ≡ true → Reading c b) → Blind c (eventOf c number argument) (eventOf (withBuffer c b) number argument)
+pub event-blind : (c : Controller) (b : List ℕ) (number argument : ℕ) → (among number (6 ∷ 8 ∷ []) ≡ true → Reading c b) →
+    Blind c (eventOf c number argument) (eventOf (withBuffer c b) number argument)
 unfolding eventOf sound moveSound resetWith
 event-blind c b number argument r =
     either c (eqb number 0 or ltb 14 number) _ _ _ _ (refusing c b 1)
@@ -255,14 +263,16 @@ event-blind c b number argument r =
     (either c (eqb number 14) _ _ _ _ (accepting c _ b 0 0 refl refl)
     (either c (sound c) _ _ _ _ (event-sound c b number argument r) (refusing c b 10))))
 
-read-sound : (c : Controller) (b : List ℕ) (register : ℕ) → eqb register 1 ≡ false → Blind c (readSound c register) (readSound (withBuffer c b) register)
+read-sound : (c : Controller) (b : List ℕ) (register : ℕ) → eqb register 1 ≡ false →
+    Blind c (readSound c register) (readSound (withBuffer c b) register)
 unfolding readSound indirectAt barsRead atPointer
 read-sound c b register e =
     either c _ _ _ _ _ (refusing c b 9) (either c _ _ _ _ _ (refusing c b 3) (either c (eqb register 0) _ _ _ _ (search ends)
     (branch c (eqb register 1) _ _ _ _ (λ t. absurd (true≢false (sym t ∙ e))) (λ _. search ends))))
 
 -- Every read but that of I2CDAT.
-pub read-blind : (c : Controller) (b : List ℕ) (register : ℕ) → eqb register 1 ≡ false → Blind c (readOf c register) (readOf (withBuffer c b) register)
+pub read-blind : (c : Controller) (b : List ℕ) (register : ℕ) → eqb register 1 ≡ false →
+    Blind c (readOf c register) (readOf (withBuffer c b) register)
 unfolding readOf sound moveSound
 read-blind c b register e = either c _ _ _ _ _ (refusing c b 1) (either c _ _ _ _ _ (read-sound c b register e) (refusing c b 10))
 
@@ -274,7 +284,8 @@ pub record Leaves (c : Controller) (o o′ : Outcome) : Type 0 where
 left : (c : Controller) (o o′ : Outcome) → Blind c o o′ → Leaves c o o′
 left c o o′ e = record { next = e .next; sized = e .sized }
 
-choose : (c : Controller) (x : Bool) (o o′ p p′ : Outcome) → Leaves c o o′ → Leaves c p p′ → Leaves c (if x then o else p) (if x then o′ else p′)
+choose : (c : Controller) (x : Bool) (o o′ p p′ : Outcome) → Leaves c o o′ → Leaves c p p′ →
+    Leaves c (if x then o else p) (if x then o′ else p′)
 unfolding if_then_else_
 choose c true o o′ p p′ f g = f
 choose c false o o′ p p′ f g = g

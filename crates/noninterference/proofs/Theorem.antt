@@ -4,123 +4,69 @@ use mathlib.Core.List.{List, [], _∷_}
 use mathlib.Core.Path.{_≡_, refl, sym, ap, subst, _∙_}
 use Prim.Native.Nat.{ℕ, suc, _≤_}
 use native.Mathlib.Omega.{arith}
-use borrow.Author.Tests.{eqb-false, eqb-true, ltb-false, eq-eqb}
-use lib.Dec.{eqb, ltb}
-use lib.ListN.{length, take, replicate, length-replicate}
+use borrow.Author.Tests.{eqb-true, eq-eqb}
+use lib.Dec.{eqb}
+use lib.ListN.{length, take}
 use lib.Seq.{length-take-le}
 use Rattle.address.specs.Number.{bitOf}
-use Rattle.address.specs.declared.number.Direction.the-variants.{Write, Read}
+use Rattle.address.specs.declared.number.Direction.the-variants.{Read}
 use Rattle.address.specs.declared.number.Direction.{Direction}
-use Rattle.control.proofs.Turning.{status-idle}
-use Rattle.control.specs.Flags.{flagsOf}
-use Rattle.control.specs.Turn.{faults, off, host, free, wireTurns, kind}
-use Rattle.control.specs.Writing.{response}
-use Rattle.control.specs.declared.flags.Control.{Control}
-use Rattle.control.specs.declared.turn.Turn.{Turn}
-use Rattle.control.specs.declared.writing.Response.the-variants.{Next}
 use Rattle.controller.specs.Access.{writeOf}
 use Rattle.controller.specs.Event.{eventOf}
-use Rattle.controller.specs.I2ccon.{keeps, badCount}
 use Rattle.controller.specs.Record.{sound, moveSound}
-use Rattle.controller.specs.Setters.{withPointer, withArmed, withRegisters}
-use Rattle.controller.specs.Registers.{withCount}
 use Rattle.controller.specs.Reply.{Outcome}
 use Rattle.controller.specs.declared.record.Controller.{Controller}
-use Rattle.driver.specs.Request.{badLength, lent, malformed, ready}
-use Rattle.driver.specs.Run.{Run, Report, run, starts, handsUp, reports, declines, jobOf}
-use Rattle.driver.specs.Service.{countOf, begins, workAt}
-use Rattle.driver.specs.Work.{Access, put, does, doesAll}
-use Rattle.answer.specs.declared.ending.Ending.the-variants.{Unfinished}
-use Rattle.driver.specs.declared.job.Job.{Job}
+use Rattle.driver.specs.Run.{Run, Report, run, handsUp, reports, declines, jobOf}
 use Rattle.noninterference.proofs.Blind.{Blind}
-use Rattle.noninterference.specs.OldBytes.{Request, Item, work, resetPin, indptr, register2, i2ccon, otherStart, otherStop, addressByte, Seen, answered, Step, ofAccess, ofJob, reportOf, step, observe, HandsUpCarried, Carries, AlikeButForPlaces, NoOldBytes, Demand3}
-use Rattle.notation.proofs.Among.{among-has, within}
-use Rattle.notation.proofs.Cases.{if-true, if-false, and-true, and-left, and-right, or-left-off, or-right-off, split}
-use Rattle.notation.specs.Choice.{if_then_else_, _and_, _or_, among}
-use Rattle.noninterference.proofs.Accesses.{controlledTo, control-written, pointer-written, count-written}
-use Rattle.noninterference.proofs.Moves.{put-sound}
-use Rattle.noninterference.proofs.Runs.{RunFacts, run-facts, run-same}
+use Rattle.noninterference.proofs.Twin.{Twin, flip, write-alike, event-alike, twins, starts-same}
+use Rattle.noninterference.proofs.TwoJobs.{job-same}
 use Rattle.noninterference.proofs.TwoRuns.{RunSame}
-use Rattle.noninterference.proofs.Stage.{apart, Formed, Good, good-waiting, waitingTurns}
-use Rattle.noninterference.proofs.Twin.{Twin, flip, write-alike, event-alike, twins, all-same, Same}
-
--- a job that is not answered 21 is well formed
-enough : (d : Direction) (given room n : ℕ) → d ≡ Write → ltb (lent d given room) n ≡ false → n ≤ given
-unfolding lent
-enough d given room n w h = ltb-false given n (ap (λ (x : Direction). ltb (lent x given room) n) (sym w) ∙ h)
-
-formed : (job : Job) (payload : List ℕ) (room places bytes : ℕ) → malformed job (length payload) room places bytes ≡ false → Formed job payload
-unfolding malformed badLength
-formed job payload room places bytes e =
-    let n = or-left-off _ _ e in
-    let after = or-right-off _ _ (or-right-off _ _ e) in
-    let zero = eqb-false (job .n) 0 (or-left-off _ _ n) in
-    record {
-      low = omega (arith, zero);
-      high = ltb-false 68 (job .n) (or-right-off _ _ n);
-      given = λ w. enough (job .direction) (length payload) room (job .n) w (or-left-off _ _ after);
-    }
-
--- "F8h: the turn stays"
-free-stays : (t : Turn) (k : Control) → among (kind t) (free ∷ []) ≡ true → response t k ≡ Next t
-unfolding response
-free-stays t k f = if-false _ _ _ (apart _ (free ∷ []) (off ∷ []) tt f) ∙ if-false _ _ _ (apart _ (free ∷ []) (host ∷ []) tt f)
-
--- the record as a job begins: I2CCOUNT is set and a START asked for
-module _ (job : Job) (c : Controller) (s : sound c ≡ true) (f : among (kind (c .turn)) (free ∷ []) ≡ true) where
-  abbrev counted : Controller
-  counted = withArmed (withRegisters (withArmed (withPointer c 0) false) (withCount (c .registers) (countOf (job .direction) (job .n)))) false
-
-  abbrev begun-as : Controller
-  begun-as = put (put (put c 0 0x00) 2 (countOf (job .direction) (job .n))) 3 0x60
-
-  begins-to : begun-as ≡ controlledTo counted (flagsOf 0x60) (c .turn)
-  unfolding flagsOf badCount _and_
-  begins-to =
-      let off-wire = apart _ (free ∷ []) wireTurns tt f in
-      let idle = status-idle (c .turn) (apart _ (free ∷ []) (host ∷ []) tt f) in
-      let e₁ = pointer-written c 0 s in
-      let s₁ = subst (λ (d : Controller). sound d ≡ true) e₁ (put-sound c 0 0 s) in
-      let e₂ = count-written (withArmed (withPointer c 0) false) (countOf (job .direction) (job .n)) s₁ off-wire refl in
-      let s₂ = subst (λ (d : Controller). sound d ≡ true) e₂ (put-sound _ 2 _ s₁) in
-      ap (λ (d : Controller). put (put d 2 (countOf (job .direction) (job .n))) 3 0x60) e₁ ∙ ap (λ (d : Controller). put d 3 0x60) e₂ ∙
-      control-written counted 0x60 (c .turn) (c .turn) s₂ refl off-wire
-      (ap (λ (x : ℕ). among x faults) idle ∙ among-has 0xF8 faults) refl (free-stays (c .turn) (flagsOf 0x60) f) refl
-
-  begins-sound : sound begun-as ≡ true
-  begins-sound = put-sound _ 3 0x60 (put-sound _ 2 _ (put-sound c 0 0 s))
-
-  starts-good : (payload : List ℕ) → length (c .buffer) ≡ 68 → Good job payload [] 0 (starts (begins job) c)
-  unfolding starts doesAll does keeps flagsOf
-  starts-good payload l =
-      subst (λ (d : Controller). Good job payload [] 0 (record {
-        controller = d;
-        over = false;
-        ending = Unfinished;
-        count = 0;
-        events = 0;
-        fetched = replicate 68 0;
-      })) (sym begins-to)
-      (good-waiting job payload _
-      (record { sound = subst (λ (d : Controller). sound d ≡ true) begins-to begins-sound; aa = refl; count = refl; places = l })
-      refl (length-replicate {A = ℕ} 68 0) (within _ (free ∷ []) waitingTurns tt f))
-
-starts-same : (xs : List Access) (c c′ : Controller) → Twin c c′ → Same (starts xs c) (starts xs c′)
-unfolding starts
-starts-same xs c c′ t = all-same xs _ _ (record { twin = t; over = refl; ending = refl; count = refl; events = refl })
+use Rattle.noninterference.specs.OldBytes.{
+  Request,
+  Item,
+  runJob,
+  resetPin,
+  indptr,
+  register2,
+  i2ccon,
+  otherStart,
+  otherStop,
+  addressByte,
+  Seen,
+  answered,
+  Step,
+  ofAccess,
+  ofJob,
+  reportOf,
+  step,
+  observe,
+  HandsUpCarried,
+  Carries,
+  AlikeButForPlaces,
+  NoOldBytes,
+  Demand3,
+}
+use Rattle.notation.proofs.Among.{among-has}
+use Rattle.notation.proofs.Cases.{if-true, if-false, and-true, and-left, and-right, split}
+use Rattle.notation.specs.Choice.{if_then_else_, _and_, among}
+use Rattle.runs.proofs.Begins.{begun}
+use Rattle.runs.proofs.Facts.{Facts, facts}
+use Rattle.runs.proofs.Fits.{read-bit}
+use Rattle.runs.proofs.Lines.{job-lines}
+use Rattle.service.proofs.Formed.{Formed, formed}
+use Rattle.service.specs.JobSteps.{begins}
+use Rattle.service.specs.JobTable.{jobTable}
+use Rattle.service.specs.Request.{malformed, ready}
+use Rattle.service.specs.Serve.{Table, starts}
+use Rattle.service.specs.declared.job.Job.{Job}
 
 -- whether the controller is ready for a job does not depend on its buffer
 ready-same : (c c′ : Controller) → Twin c c′ → ready c ≡ ready c′
 unfolding ready sound moveSound
 ready-same c c′ t = ap (λ (d : Controller). ready d) (t .rest)
 
--- only a read answered 0 hands up
-pub read-bit : (d : Direction) → eqb (bitOf d) 1 ≡ true → d ≡ Read
-unfolding bitOf
-read-bit Write e = absurd (false≢true e)
-read-bit Read e = refl
-
-handed-same : (job : Job) (answer answer′ : ℕ) (xs xs′ : List ℕ) → answer ≡ answer′ → (answer ≡ 0 → job .direction ≡ Read → take (job .n) xs ≡ take (job .n) xs′) → handsUp job answer xs ≡ handsUp job answer′ xs′
+handed-same : (job : Job) (answer answer′ : ℕ) (xs xs′ : List ℕ) → answer ≡ answer′ →
+    (answer ≡ 0 → job .direction ≡ Read → take (job .n) xs ≡ take (job .n) xs′) → handsUp job answer xs ≡ handsUp job answer′ xs′
 unfolding handsUp
 handed-same job answer answer′ xs xs′ e f =
     go (eqb answer 0 and eqb (bitOf (job .direction)) 1) refl ∙ ap (λ (a : ℕ). handsUp job a xs′) e
@@ -143,10 +89,14 @@ unfolding declines
 declines-same c c′ answer t = record { twin = t; seen = refl }
 
 -- a report's six parts that are compared
-seen-same : (r r′ : Report) → r .result .answer ≡ r′ .result .answer → r .result .refused ≡ r′ .result .refused → r .result .count ≡ r′ .result .count → r .result .events ≡ r′ .result .events → r .sent ≡ r′ .sent → r .handed ≡ r′ .handed → ofJob r .seen ≡ ofJob r′ .seen
+seen-same : (r r′ : Report) → r .result .answer ≡ r′ .result .answer → r .result .refused ≡ r′ .result .refused →
+    r .result .count ≡ r′ .result .count → r .result .events ≡ r′ .result .events → r .sent ≡ r′ .sent →
+    r .handed ≡ r′ .handed → ofJob r .seen ≡ ofJob r′ .seen
 seen-same r r′ a b c d e f = simp (a, b, c, d, e, f)
 
-reports-same : (job : Job) (r r′ : Run) → RunSame r r′ → (r .result .answer ≡ 0 → job .direction ≡ Read → take (job .n) (r .fetched) ≡ take (job .n) (r′ .fetched)) → ReportSame (reports job r) (reports job r′)
+reports-same : (job : Job) (r r′ : Run) → RunSame r r′ →
+    (r .result .answer ≡ 0 → job .direction ≡ Read → take (job .n) (r .fetched) ≡ take (job .n) (r′ .fetched)) →
+    ReportSame (reports job r) (reports job r′)
 unfolding reports
 reports-same job r r′ s f =
     record {
@@ -156,34 +106,38 @@ reports-same job r r′ s f =
 
 -- a job that begins
 module _ (q : Request) (m : malformed (q .job) (length (q .payload)) (q .destinationLength) (q .outLength) (length (q .script)) ≡ false) where
-  pub form : Formed (q .job) (q .payload)
-  form = formed (q .job) (q .payload) (q .destinationLength) (q .outLength) (length (q .script)) m
-
-  begun : (c : Controller) → ready c ≡ true → length (c .buffer) ≡ 68 → Good (q .job) (q .payload) [] 0 (starts (begins (q .job)) c)
-  unfolding ready
-  begun c r l = starts-good (q .job) c (and-left _ _ r) (and-left _ _ (and-right _ _ r)) (q .payload) l
+  abbrev table : Table
+  table = jobTable (q .job) (q .payload)
 
   abbrev runs : Controller → Run
-  runs c = run (workAt (q .job) (q .payload)) (starts (begins (q .job)) c) (q .script)
+  runs c = run table (starts (begins (q .job)) c) (q .script)
 
-  pub facts : (c : Controller) → ready c ≡ true → length (c .buffer) ≡ 68 → RunFacts (q .job) (q .payload) form [] 0 (q .script) (runs c)
-  facts c r l = run-facts (q .job) (q .payload) form (q .script) [] 0 _ (begun c r l)
+  form : Formed (q .job) (length (q .payload)) (q .destinationLength) (q .outLength)
+  form = formed (q .job) (length (q .payload)) (q .destinationLength) (q .outLength) (length (q .script)) m
 
-  run-alike : (c c′ : Controller) → Twin c c′ → ready c ≡ true → ready c′ ≡ true → ReportSame (reports (q .job) (runs c)) (reports (q .job) (runs c′))
+  run-carries-back : (c : Controller) → ready c ≡ true → length (c .buffer) ≡ 68 → Facts (q .job) [] 0 (q .script) (runs c)
+  run-carries-back c r l = facts (q .job) (q .payload) (q .script) (q .destinationLength) (q .outLength) c m r l
+
+  run-alike : (c c′ : Controller) → Twin c c′ → ready c ≡ true → ready c′ ≡ true →
+      ReportSame (reports (q .job) (runs c)) (reports (q .job) (runs c′))
   run-alike c c′ t r r′ =
-      let s = run-same (q .job) (q .payload) form (q .script) _ _ (begun c r (t .places)) (begun c′ r′ (t .places′)) (starts-same (begins (q .job)) c c′ t) in
-      reports-same (q .job) _ _ s
-      (λ z d. facts c r (t .places) .carry z d .0 ∙ sym (facts c′ r′ (t .places′) .carry (sym (s .answer) ∙ z) d .0))
+      let g = begun (q .job) (q .payload) c r (t .places) in
+      let g′ = begun (q .job) (q .payload) c′ r′ (t .places′) in
+      let s = job-same table (q .payload) form (job-lines (q .job) (q .payload)) (q .script) _ _ g g′ (starts-same (begins (q .job)) c c′ t) in
+      let f = run-carries-back c r (t .places) in
+      let f′ = run-carries-back c′ r′ (t .places′) in
+      reports-same (q .job) _ _ s (λ z d. f .carry z d .0 ∙ sym (f′ .carry (sym (s .answer) ∙ z) d .0))
 
   run-carries : (c : Controller) → ready c ≡ true → length (c .buffer) ≡ 68 → HandsUpCarried q (reports (q .job) (runs c))
   unfolding reports
   run-carries c r l z d =
-      let f = facts c r l .carry z d in
+      let f = run-carries-back c r l .carry z d in
       let h = hands-up (q .job) _ (runs c .fetched) z d in
       let n = form .high in
       (h ∙ f .0, ap length h ∙ length-take-le (q .job .n) (runs c .fetched) (subst (λ (k : ℕ). q .job .n ≤ k) (sym (f .1)) n))
 
-same-if : (b b′ : Bool) (x x′ y y′ : Report) → b ≡ b′ → (b ≡ true → ReportSame x x′) → (b ≡ false → ReportSame y y′) → ReportSame (if b then x else y) (if b′ then x′ else y′)
+same-if : (b b′ : Bool) (x x′ y y′ : Report) → b ≡ b′ → (b ≡ true → ReportSame x x′) → (b ≡ false → ReportSame y y′) →
+    ReportSame (if b then x else y) (if b′ then x′ else y′)
 unfolding if_then_else_
 same-if true true x x′ y y′ e f g = f refl
 same-if true false x x′ y y′ e f g = absurd (true≢false e)
@@ -191,9 +145,9 @@ same-if false true x x′ y y′ e f g = absurd (false≢true e)
 same-if false false x x′ y y′ e f g = g refl
 
 -- A job: the same report on both sides, and what it hands up was carried.
-job-same : (q : Request) (c c′ : Controller) → Twin c c′ → ReportSame (reportOf q c) (reportOf q c′)
+request-same : (q : Request) (c c′ : Controller) → Twin c c′ → ReportSame (reportOf q c) (reportOf q c′)
 unfolding jobOf
-job-same q c c′ t =
+request-same q c c′ t =
     same-if _ _ _ _ _ _ refl (λ _. declines-same c c′ 21 t)
     (λ m. same-if _ _ _ _ _ _ (ready-same c c′ t) (λ r. run-alike q m c c′ t r (sym (ready-same c c′ t) ∙ r)) (λ _. declines-same c c′ 22 t))
 
@@ -218,18 +172,20 @@ access-same : (c c′ : Controller) (o o′ : Outcome) → Twin c c′ → Blind
 access-same c c′ o o′ t e e′ =
     record { twin = twins o o′ t e e′; seen = ap (λ (r : ℕ). answered r (o .value)) (e .refused) ∙ ap (λ (v : ℕ). answered (o′ .refused) v) (e .value) }
 
-write-same : (c c′ : Controller) (register value : ℕ) → Twin c c′ → StepSame (ofAccess (writeOf c register value)) (ofAccess (writeOf c′ register value))
+write-same : (c c′ : Controller) (register value : ℕ) → Twin c c′ →
+    StepSame (ofAccess (writeOf c register value)) (ofAccess (writeOf c′ register value))
 write-same c c′ register value t =
     access-same c c′ _ _ t (write-alike c c′ register value t) (write-alike c′ c register value (flip t))
 
 -- an event that reads no byte
-event-same : (c c′ : Controller) (number argument : ℕ) → among number (6 ∷ 8 ∷ []) ≡ false → Twin c c′ → StepSame (ofAccess (eventOf c number argument)) (ofAccess (eventOf c′ number argument))
+event-same : (c c′ : Controller) (number argument : ℕ) → among number (6 ∷ 8 ∷ []) ≡ false → Twin c c′ →
+    StepSame (ofAccess (eventOf c number argument)) (ofAccess (eventOf c′ number argument))
 event-same c c′ number argument n t =
     access-same c c′ _ _ t (event-alike c c′ number argument t (λ e. absurd (true≢false (sym e ∙ n))))
     (event-alike c′ c number argument (flip t) (λ e. absurd (true≢false (sym e ∙ n))))
 
 step-same : (i : Item) (c c′ : Controller) → Twin c c′ → StepSame (step i c) (step i c′)
-step-same (work q) c c′ t = let s = job-same q c c′ t in record { twin = s .twin; seen = s .seen }
+step-same (runJob q) c c′ t = let s = request-same q c c′ t in record { twin = s .twin; seen = s .seen }
 step-same (resetPin argument) c c′ t = event-same c c′ 14 argument (among-has 14 (6 ∷ 8 ∷ [])) t
 step-same (indptr value) c c′ t = write-same c c′ 0 value t
 step-same (register2 value) c c′ t = write-same c c′ 2 value t
@@ -239,7 +195,7 @@ step-same (otherStop argument) c c′ t = event-same c c′ 3 argument (among-ha
 step-same (addressByte byte) c c′ t = event-same c c′ 5 byte (among-has 5 (6 ∷ 8 ∷ [])) t
 
 step-carries : (i : Item) (c : Controller) → length (c .buffer) ≡ 68 → Carries i c
-step-carries (work q) c l = job-carries q c l
+step-carries (runJob q) c l = job-carries q c l
 step-carries (resetPin argument) c l = tt
 step-carries (indptr value) c l = tt
 step-carries (register2 value) c l = tt

@@ -3,11 +3,10 @@
 -- stands before them: those are of the demand itself, which document 01 spells out.
 --
 -- The statement speaks of the definitions. The code's `write`, `event` and `run_job` are proved equal to them, and the caller's
--- destination then begins with what is called `handed` here, the out record with `sent` (proofs/Fits.antt).
+-- destination then begins with what is called `handed` here, the out record with `sent` (`always-fits`, crates/runs).
 use mathlib.Core.List.{List, [], _∷_}
 use mathlib.Core.Path.{_≡_}
 use Prim.Native.Nat.{ℕ}
-use lib.Dec.{eqb}
 use lib.ListN.{length}
 use Rattle.address.specs.declared.number.Direction.the-variants.{Read}
 use Rattle.controller.specs.Access.{writeOf}
@@ -15,8 +14,8 @@ use Rattle.controller.specs.Event.{eventOf}
 use Rattle.controller.specs.Reply.{Outcome}
 use Rattle.controller.specs.declared.record.Controller.{Controller}
 use Rattle.driver.specs.Run.{Report, jobOf}
-use Rattle.driver.specs.declared.job.Job.{Job}
-use Rattle.notation.specs.Choice.{if_then_else_}
+use Rattle.runs.specs.OneRun.{carried}
+use Rattle.service.specs.declared.job.Job.{Job}
 
 -- A job on the list. "The same job means the same kind, address, n, data, script and lengths of destination and out record; what those
 -- two held may differ." Kind, address and n are in `job`; what destination and out record held is not in here at all.
@@ -31,7 +30,7 @@ pub record Request : Type 0 where
 -- refused ones included". It is wider than the paper's list: any byte to INDPTR, to register 2 whatever the pointer, and to I2CCON.
 pub data Item : Type 0 where
   -- a job with its script
-  work : Request → Item
+  runJob : Request → Item
   -- "a reset is event 14": the reset pin, with its argument
   resetPin : ℕ → Item
   -- "or the software one (A5h and next 5Ah to I2CPRESET, with 05h written to INDPTR first ..)": a byte written to INDPTR, and one to
@@ -72,7 +71,7 @@ reportOf q c = jobOf (q .job) (q .payload) (q .destinationLength) (q .outLength)
 
 -- each item by the rules of document 01
 abbrev pub step : Item → Controller → Step
-step (work q) c = ofJob (reportOf q c)
+step (runJob q) c = ofJob (reportOf q c)
 step (resetPin argument) c = ofAccess (eventOf c 14 argument)
 step (indptr value) c = ofAccess (writeOf c 0 value)
 step (register2 value) c = ofAccess (writeOf c 2 value)
@@ -87,21 +86,14 @@ unfoldable pub observe : List Item → Controller → List Seen
 observe [] c = []
 observe (i ∷ items) c = step i c .seen ∷ observe items (step i c .next)
 
--- "What the bus carried in it are the arguments of the event 7 pairs before its script's first event 4, .. in script order."
-unfoldable pub carried : List ℕ → List ℕ
-carried [] = []
-carried (event ∷ []) = []
-carried (event ∷ argument ∷ rest) =
-    if eqb event 4 then [] else if eqb event 7 then argument ∷ carried rest else carried rest
-
--- "A finished read is a read answered 0": it hands up exactly what the bus carried, n of them
+-- "A finished read is a read answered 0": it hands up exactly what the bus carried (`carried`, runs/specs/OneRun.antt), n of them
 abbrev pub HandsUpCarried : Request → Report → Type 0
 HandsUpCarried q r =
     r .result .answer ≡ 0 → q .job .direction ≡ Read → (r .handed ≡ carried (q .script)) × (length (r .handed) ≡ q .job .n)
 
 -- of one item; there is nothing to say of what is no job
 abbrev pub Carries : Item → Controller → Type 0
-Carries (work q) c = HandsUpCarried q (reportOf q c)
+Carries (runJob q) c = HandsUpCarried q (reportOf q c)
 Carries (resetPin argument) c = Unit {0}
 Carries (indptr value) c = Unit {0}
 Carries (register2 value) c = Unit {0}

@@ -95,3 +95,25 @@ without x ks ls t e = step (among x ks) refl
     step : (b : Bool) → among x ks ≡ b → among x ks ≡ false
     step true q = absurd (true≢false (sym (within x ks ls t q) ∙ e))
     step false q = q
+
+-- being one of these numbers, as what an arm of a match knows
+pub one-of : (ks : List ℕ) (x : ℕ) → among x ks ≡ true → OneOf ks x
+unfolding among
+one-of [] x e = absurd (false≢true e)
+one-of (k ∷ []) x e = step (eqb x k) refl
+  where
+    step : (b : Bool) → eqb x k ≡ b → x ≡ k
+    step true q = eqb-true x k q
+    step false q = absurd (false≢true (sym (if-false (eqb x k) true (among x []) q) ∙ e))
+one-of (k ∷ j ∷ ks) x e = step (eqb x k) refl (one-of (j ∷ ks) x)
+  where
+    step : (b : Bool) → eqb x k ≡ b → (among x (j ∷ ks) ≡ true → OneOf (j ∷ ks) x) → OneOf (k ∷ j ∷ ks) x
+    step true q later = inl (eqb-true x k q)
+    step false q later = inr (later (sym (if-false (eqb x k) true (among x (j ∷ ks)) q) ∙ e))
+
+-- a number of one list is none of another that shares nothing with it
+pub apart : (x : ℕ) (ks ls : List ℕ) → T (every (λ k. same (has ls k) false) ks) → among x ks ≡ true → among x ls ≡ false
+apart x ks ls t e = keys-in ks x (one-of ks x e) false ls t
+
+pub clash : {A : Type 0} (x : ℕ) (ks ls : List ℕ) → T (every (λ k. same (has ls k) false) ks) → among x ks ≡ true → among x ls ≡ true → A
+clash x ks ls t e f = absurd (true≢false (sym f ∙ apart x ks ls t e))

@@ -19,34 +19,41 @@ use Rattle.controller.specs.Setters.{withPlace, withHand, withMoved, withPointe
 use Rattle.controller.specs.Registers.{wrote, writePointer, readData, writeData, stored, withCount, writeAtPointer}
 use Rattle.controller.specs.Reply.{Outcome, refuses, accepts}
 use Rattle.controller.specs.declared.record.Controller.{Controller}
-use Rattle.driver.specs.Work.{put, reads}
 use Rattle.notation.proofs.Cases.{and-no-right, split}
 use Rattle.notation.specs.Choice.{if_then_else_, _and_, _or_, among}
+use Rattle.service.specs.Act.{put}
 
 -- the record after an accepted I2CCON write
 abbrev pub controlledTo : Controller → Control → Turn → Controller
 controlledTo c k t = withArmed (withTurn (withControl (withMoved (withHand c 0) 0) (keeps (c .control) k t)) t) false
 
 -- an I2CCON write with ENSIO 1 that the rules list
-listed : (c : Controller) (value : ℕ) (t : Turn) → sound c ≡ true → among (kind (c .turn)) wireTurns ≡ false → among (statusOf (c .turn)) faults ≡ false → flagsOf value .ensio ≡ true → response (c .turn) (flagsOf value) ≡ Next t → badCount c (flagsOf value) t ≡ false → writeOf c 3 value ≡ controlled c (flagsOf value) t
+listed : (c : Controller) (value : ℕ) (t : Turn) → sound c ≡ true → among (kind (c .turn)) wireTurns ≡ false →
+    among (statusOf (c .turn)) faults ≡ false → flagsOf value .ensio ≡ true → response (c .turn) (flagsOf value) ≡ Next t →
+    badCount c (flagsOf value) t ≡ false → writeOf c 3 value ≡ controlled c (flagsOf value) t
 unfolding writeOf writeSound indirectAt barsWrite writeControl writeFlags enabled if_then_else_ _and_ _or_
 listed c value t s w l e r b = rw (s, w, l, r, b, e)
 
-pub control-written : (c : Controller) (value : ℕ) (u t : Turn) → sound c ≡ true → c .turn ≡ u → among (kind u) wireTurns ≡ false → among (statusOf u) faults ≡ false → flagsOf value .ensio ≡ true → response u (flagsOf value) ≡ Next t → badCount c (flagsOf value) t ≡ false → put c 3 value ≡ controlledTo c (flagsOf value) t
+pub control-written : (c : Controller) (value : ℕ) (u t : Turn) → sound c ≡ true → c .turn ≡ u → among (kind u) wireTurns ≡ false →
+    among (statusOf u) faults ≡ false → flagsOf value .ensio ≡ true → response u (flagsOf value) ≡ Next t →
+    badCount c (flagsOf value) t ≡ false → put c 3 value ≡ controlledTo c (flagsOf value) t
 unfolding put controlled wrote accepts
 control-written c value u t s h w l e r b =
     ap (λ (o : Outcome). o .next)
-    (listed c value t s (ap (λ (x : Turn). among (kind x) wireTurns) h ∙ w) (ap (λ (x : Turn). among (statusOf x) faults) h ∙ l) e (ap (λ (x : Turn). response x (flagsOf value)) h ∙ r) b)
+    (listed c value t s (ap (λ (x : Turn). among (kind x) wireTurns) h ∙ w) (ap (λ (x : Turn). among (statusOf x) faults) h ∙ l) e
+    (ap (λ (x : Turn). response x (flagsOf value)) h ∙ r) b)
 
 -- an I2CDAT write out of the wire turns
 abbrev pub dataWritten : Controller → ℕ → Controller
 dataWritten c x = withArmed (withHand (withPlace c (c .hand) x) (c .hand + 1)) false
 
-data-accepted : (c : Controller) (x : ℕ) → sound c ≡ true → among (kind (c .turn)) wireTurns ≡ false → eqb (c .hand) 68 ≡ false → writeOf c 1 x ≡ accepts (dataWritten c x) 0
+data-accepted : (c : Controller) (x : ℕ) → sound c ≡ true → among (kind (c .turn)) wireTurns ≡ false → eqb (c .hand) 68 ≡ false →
+    writeOf c 1 x ≡ accepts (dataWritten c x) 0
 unfolding writeOf writeSound indirectAt barsWrite writeData wrote if_then_else_ _and_ _or_
 data-accepted c x s w h = rw (s, w, h)
 
-pub data-written : (c : Controller) (x : ℕ) → sound c ≡ true → among (kind (c .turn)) wireTurns ≡ false → c .hand < 68 → put c 1 x ≡ dataWritten c x
+pub data-written : (c : Controller) (x : ℕ) → sound c ≡ true → among (kind (c .turn)) wireTurns ≡ false → c .hand < 68 →
+    put c 1 x ≡ dataWritten c x
 unfolding put accepts
 data-written c x s w h = ap (λ (o : Outcome). o .next) (data-accepted c x s w (ne-eqb (c .hand) 68 (omega arith)))
 
@@ -60,25 +67,19 @@ unfolding put accepts
 pointer-written c x s = ap (λ (o : Outcome). o .next) (pointer-accepted c x s)
 
 -- I2CCOUNT, register 2 with the pointer at 00h
-count-accepted : (c : Controller) (x : ℕ) → sound c ≡ true → among (kind (c .turn)) wireTurns ≡ false → c .pointer ≡ 0 → writeOf c 2 x ≡ accepts (withArmed (withRegisters c (withCount (c .registers) x)) false) 0
+count-accepted : (c : Controller) (x : ℕ) → sound c ≡ true → among (kind (c .turn)) wireTurns ≡ false → c .pointer ≡ 0 →
+    writeOf c 2 x ≡ accepts (withArmed (withRegisters c (withCount (c .registers) x)) false) 0
 unfolding writeOf writeSound indirectAt barsWrite writeAtPointer stored wrote if_then_else_ _and_ _or_
 count-accepted c x s w p = rw (s, p, w)
 
-pub count-written : (c : Controller) (x : ℕ) → sound c ≡ true → among (kind (c .turn)) wireTurns ≡ false → c .pointer ≡ 0 → put c 2 x ≡ withArmed (withRegisters c (withCount (c .registers) x)) false
+pub count-written : (c : Controller) (x : ℕ) → sound c ≡ true → among (kind (c .turn)) wireTurns ≡ false → c .pointer ≡ 0 →
+    put c 2 x ≡ withArmed (withRegisters c (withCount (c .registers) x)) false
 unfolding put accepts
 count-written c x s w p = ap (λ (o : Outcome). o .next) (count-accepted c x s w p)
 
--- I2CSTA
-status-accepted : (c : Controller) → sound c ≡ true → readOf c 0 ≡ accepts c (statusOf (c .turn))
-unfolding readOf readSound indirectAt barsRead if_then_else_ _and_
-status-accepted c s = rw (s, and-no-right (among (kind (c .turn)) wireTurns) false refl)
-
-pub status-read : (c : Controller) → sound c ≡ true → reads c 0 ≡ statusOf (c .turn)
-unfolding reads accepts
-status-read c s = ap (λ (o : Outcome). o .value) (status-accepted c s)
-
 -- an I2CDAT read out of the wire turns
-pub data-read : (c : Controller) → sound c ≡ true → among (kind (c .turn)) wireTurns ≡ false → c .hand < 68 → readOf c 1 ≡ accepts (withHand c (c .hand + 1)) (place c (c .hand))
+pub data-read : (c : Controller) → sound c ≡ true → among (kind (c .turn)) wireTurns ≡ false → c .hand < 68 →
+    readOf c 1 ≡ accepts (withHand c (c .hand + 1)) (place c (c .hand))
 unfolding readOf readSound indirectAt barsRead readData if_then_else_ _and_
 data-read c s w h = rw (s, w, ne-eqb (c .hand) 68 (omega arith))
 

@@ -6,17 +6,20 @@ use Prim.Native.Nat.{ℕ, suc, _+_}
 use native.Mathlib.Omega.{arith}
 use lib.Dec.{eqb}
 use lib.ListN.{length}
-use Rattle.console.specs.Sent.{sentCount}
 use Rattle.controller.specs.Event.{eventOf}
 use Rattle.controller.specs.declared.record.Controller.{Controller}
-use Rattle.driver.proofs.Steps.{serve-events}
-use Rattle.driver.specs.Run.{Report, Run, closes, breaks, sending, taking, run, starts, reports, declines, jobOf}
-use Rattle.driver.specs.Service.{begins, workAt}
-use Rattle.driver.specs.Work.{Service, does, doesAll, serve}
-use Rattle.driver.specs.declared.job.Job.{Job}
-use Rattle.driver.specs.declared.progress.Progress.{Progress}
+use Rattle.driver.specs.Run.{Report, Run, closes, breaks, sending, taking, run, reports, declines, jobOf}
 use Rattle.notation.proofs.Cases.{split}
 use Rattle.notation.specs.Choice.{if_then_else_}
+use Rattle.runs.specs.OneRun.{sentCount, OneByteEach}
+use Rattle.service.proofs.AnyTable.{serve-events}
+use Rattle.service.specs.Act.{Act, does, doesAll}
+use Rattle.service.specs.JobSteps.{begins}
+use Rattle.service.specs.JobTable.{jobTable}
+use Rattle.service.specs.Progress.{starting}
+use Rattle.service.specs.Serve.{Table, starts, serve}
+use Rattle.service.specs.declared.job.Job.{Job}
+use Rattle.service.specs.declared.progress.Progress.{Progress}
 
 -- After n events: the run uses some pairs more of the script, and sends a byte for each event 6 among them.
 record Sends (n : ℕ) (script : List ℕ) (r : Run) : Type 0 where
@@ -47,22 +50,22 @@ passed n event argument value rest r s = record {
 }
 
 -- a pair that was served
-served : (service : Service) (event : ℕ) (p : Progress) (c : Controller) (rest : List ℕ) (r : Run) →
-    Sends ((serve service event (taking p c)) .events) rest r → Sends (p .events + 1) rest r
+served : (table : Table) (event : ℕ) (p : Progress) (c : Controller) (rest : List ℕ) (r : Run) →
+    Sends ((serve table event (taking p c)) .events) rest r → Sends (p .events + 1) rest r
 unfolding taking
-served service event p c rest r s = subst (λ (n : ℕ). Sends n rest r) (serve-events service event (taking p c)) s
+served table event p c rest r s = subst (λ (n : ℕ). Sends n rest r) (serve-events table event (taking p c)) s
 
-runs : (service : Service) (p : Progress) (script : List ℕ) → Sends (p .events) script (run service p script)
+runs : (table : Table) (p : Progress) (script : List ℕ) → Sends (p .events) script (run table p script)
 unfolding run
-runs service p [] = broken p [] 27 0
-runs service p (event ∷ []) = broken p (event ∷ []) 27 0
-runs service p (event ∷ argument ∷ rest) =
+runs table p [] = broken p [] 27 0
+runs table p (event ∷ []) = broken p (event ∷ []) 27 0
+runs table p (event ∷ argument ∷ rest) =
     let o = eventOf (p .controller) event argument in
-    let q = serve service event (taking p (o .next)) in
+    let q = serve table event (taking p (o .next)) in
     split (Sends (p .events) (event ∷ argument ∷ rest)) (eqb (o .refused) 0) _ _
     (λ _. passed (p .events) event argument (o .value) rest _
-    (served service event p (o .next) rest _
-    (split (Sends (q .events) rest) (q .over) (closes q) (run service q rest) (λ _. closed q rest) (λ _. runs service q rest))))
+    (served table event p (o .next) rest _
+    (split (Sends (q .events) rest) (q .over) (closes q) (run table q rest) (λ _. closed q rest) (λ _. runs table q rest))))
     (λ _. broken p (event ∷ argument ∷ rest) 28 (o .refused))
 
 abbrev Each : List ℕ → Report → Type 0
@@ -72,15 +75,18 @@ declined : (c : Controller) (answer : ℕ) (script : List ℕ) → Each script (
 unfolding declines sentCount
 declined c answer script = refl
 
-worked : (job : Job) (payload : List ℕ) (script : List ℕ) (c : Controller) → Each script (reports job (run (workAt job payload) (starts (begins job) c) script))
-unfolding reports starts doesAll does
-worked job payload script c =
-    let s = runs (workAt job payload) (starts (begins job) c) script in
-    let e : (run (workAt job payload) (starts (begins job) c) script) .result .events ≡ s .used = omega (arith, s .events) in
+worked : (table : Table) (acts : List Act) (job : Job) (script : List ℕ) (c : Controller) →
+    starts acts c .events ≡ 0 → Each script (reports job (run table (starts acts c) script))
+unfolding reports
+worked table acts job script c z =
+    let s = runs table (starts acts c) script in
+    let n = s .events in
+    let e : (run table (starts acts c) script) .result .events ≡ s .used = omega (arith, n, z) in
     s .sent ∙ ap (λ (n : ℕ). sentCount n script) (sym e)
 
-pub one-byte-each : (job : Job) (payload : List ℕ) (room places : ℕ) (script : List ℕ) (c : Controller) →
-    length ((jobOf job payload room places script c) .sent) ≡ sentCount ((jobOf job payload room places script c) .result .events) script
-unfolding jobOf
+pub one-byte-each : OneByteEach
+unfolding jobOf starts starting doesAll does
 one-byte-each job payload room places script c =
-    split (Each script) _ _ _ (λ _. declined c 21 script) (λ _. split (Each script) _ _ _ (λ _. worked job payload script c) (λ _. declined c 22 script))
+    let P = Each script in
+    split P _ _ _ (λ _. declined c 21 script)
+    (λ _. split P _ _ _ (λ _. worked (jobTable job payload) (begins job) job script c refl) (λ _. declined c 22 script))

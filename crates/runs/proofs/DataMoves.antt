@@ -12,11 +12,12 @@ use Rattle.controller.specs.Setters.{withHand}
 use Rattle.controller.specs.Reply.{Outcome, accepts}
 use Rattle.controller.specs.declared.record.Controller.{Controller}
 use Rattle.block.specs.Block.{written}
-use Rattle.driver.specs.Work.{put, reads, made, fetchOne, fetch}
-use Rattle.driver.specs.declared.progress.Progress.{Progress}
 use Rattle.laws.proofs.Soundness.{write-stays-sound, read-stays-sound}
 use Rattle.notation.specs.Choice.{among}
-use Rattle.noninterference.proofs.Accesses.{dataWritten, data-written, data-read}
+use Rattle.service.specs.Act.{put, reads, fetchOne, fetch}
+use Rattle.service.specs.Progress.{withRecord, withFetched}
+use Rattle.service.specs.declared.progress.Progress.{Progress}
+use Rattle.runs.proofs.Accesses.{dataWritten, data-written, data-read}
 
 pub retake : (l : List ℕ) (m n : ℕ) → m ≡ n → take m l ≡ take n l
 retake l m n e = ap (λ (k : ℕ). take k l) e
@@ -33,7 +34,8 @@ pub put-sound : (c : Controller) (register value : ℕ) → sound c ≡ true →
 unfolding put
 put-sound c register value s = write-stays-sound c register value s
 
-pub load-all : (xs : List ℕ) (c : Controller) → sound c ≡ true → among (kind (c .turn)) wireTurns ≡ false → c .hand + length xs ≤ 68 → length (c .buffer) ≡ 68 → Loaded xs c (written xs c)
+pub load-all : (xs : List ℕ) (c : Controller) → sound c ≡ true → among (kind (c .turn)) wireTurns ≡ false → c .hand + length xs ≤ 68 →
+    length (c .buffer) ≡ 68 → Loaded xs c (written xs c)
 unfolding written put
 load-all [] c s w h l =
     record { turn = refl; registers = refl; sound = s; places = l; bytes = retake (c .buffer) (c .hand + 0) (c .hand) (omega arith) ∙ sym (append-nil _) }
@@ -49,7 +51,8 @@ load-all (x ∷ xs) c s w h l =
       places = inner .places;
       bytes =
           retake (written xs d .buffer) (c .hand + suc (length xs)) (d .hand + length xs) (omega arith) ∙ inner .bytes ∙
-          ap (λ (l : List ℕ). l ++ xs) (retake (set (c .buffer) (c .hand) x) (d .hand) (suc (c .hand)) (omega arith) ∙ take-suc-set (c .buffer) (c .hand) x (omega arith)) ∙
+          ap (λ (l : List ℕ). l ++ xs)
+          (retake (set (c .buffer) (c .hand) x) (d .hand) (suc (c .hand)) (omega arith) ∙ take-suc-set (c .buffer) (c .hand) x (omega arith)) ∙
           append-snoc (take (c .hand) (c .buffer)) x xs;
     })
 
@@ -65,16 +68,23 @@ pub record Fetched (more i : ℕ) (p q : Progress) : Type 0 where
 
 -- the note of one byte
 abbrev noted : ℕ → Progress → Progress
-noted i p = made p (withHand (p .controller) (p .controller .hand + 1)) (p .count) (set (p .fetched) i (place (p .controller) (p .controller .hand)))
+noted i p =
+    let c = p .controller in
+    withFetched (withRecord p (withHand c (c .hand + 1))) (set (p .fetched) i (place c (c .hand)))
 
-fetch-one : (i : ℕ) (p : Progress) → sound (p .controller) ≡ true → among (kind (p .controller .turn)) wireTurns ≡ false → p .controller .hand < 68 → fetchOne i p ≡ noted i p
+fetch-one : (i : ℕ) (p : Progress) → sound (p .controller) ≡ true → among (kind (p .controller .turn)) wireTurns ≡ false →
+    p .controller .hand < 68 →
+    fetchOne i p ≡ noted i p
 unfolding fetchOne reads accepts
-fetch-one i p s w h = ap (λ (o : Outcome). made p (o .next) (p .count) (set (p .fetched) i (o .value))) (data-read (p .controller) s w h)
+fetch-one i p s w h =
+    ap (λ (o : Outcome). withFetched (withRecord p (o .next)) (set (p .fetched) i (o .value))) (data-read (p .controller) s w h)
 
-pub fetch-all : (more i : ℕ) (p : Progress) → sound (p .controller) ≡ true → among (kind (p .controller .turn)) wireTurns ≡ false → p .controller .hand ≡ i → i + more ≤ 68 → length (p .controller .buffer) ≡ 68 → length (p .fetched) ≡ 68 → Fetched more i p (fetch more i p)
+pub fetch-all : (more i : ℕ) (p : Progress) → sound (p .controller) ≡ true → among (kind (p .controller .turn)) wireTurns ≡ false →
+    p .controller .hand ≡ i → i + more ≤ 68 → length (p .controller .buffer) ≡ 68 → length (p .fetched) ≡ 68 → Fetched more i p (fetch more i p)
 unfolding fetch fetchOne
 fetch-all zero i p s w h b l f =
-    record { turn = refl; registers = refl; sound = s; places = l; notes = f; over = refl; bytes = retake (p .fetched) (i + 0) i (omega arith) ∙ sym (append-nil _) }
+    let bytes = retake (p .fetched) (i + 0) i (omega arith) ∙ sym (append-nil _) in
+    record { turn = refl; registers = refl; sound = s; places = l; notes = f; over = refl; bytes = bytes }
 fetch-all (suc more) i p s w h b l f =
     let q = noted i p in
     let buffer = p .controller .buffer in

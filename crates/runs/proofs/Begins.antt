@@ -1,0 +1,76 @@
+-- A job begins: I2CCOUNT is set and a START asked for, and the invariant holds. Assumes nothing.
+use mathlib.Core.Bool.{true, false}
+use mathlib.Core.List.{List, [], _∷_}
+use mathlib.Core.Path.{_≡_, refl, sym, ap, subst, _∙_}
+use Prim.Native.Nat.{ℕ}
+use lib.ListN.{length, replicate, length-replicate}
+use Rattle.answer.specs.declared.ending.Ending.the-variants.{Unfinished}
+use Rattle.control.proofs.Turning.{status-idle}
+use Rattle.control.specs.Flags.{flagsOf}
+use Rattle.control.specs.Turn.{faults, off, host, free, wireTurns, kind}
+use Rattle.control.specs.Writing.{response}
+use Rattle.control.specs.declared.flags.Control.{Control}
+use Rattle.control.specs.declared.turn.Turn.{Turn}
+use Rattle.control.specs.declared.writing.Response.the-variants.{Next}
+use Rattle.controller.specs.I2ccon.{keeps, badCount}
+use Rattle.controller.specs.Record.{sound}
+use Rattle.controller.specs.Registers.{withCount}
+use Rattle.controller.specs.Setters.{withPointer, withArmed, withRegisters}
+use Rattle.controller.specs.declared.record.Controller.{Controller}
+use Rattle.notation.proofs.Among.{among-has, within, apart}
+use Rattle.notation.proofs.Cases.{if-false, and-left, and-right}
+use Rattle.notation.specs.Choice.{_and_, among}
+use Rattle.runs.proofs.Accesses.{controlledTo, control-written, pointer-written, count-written}
+use Rattle.runs.proofs.DataMoves.{put-sound}
+use Rattle.runs.proofs.Invariant.{waitingTurns, Good, good-waiting}
+use Rattle.service.specs.Act.{put, does, doesAll}
+use Rattle.service.specs.JobSteps.{countOf, begins}
+use Rattle.service.specs.Progress.{progress, starting}
+use Rattle.service.specs.Request.{ready}
+use Rattle.service.specs.Serve.{starts}
+use Rattle.service.specs.declared.job.Job.{Job}
+
+-- "F8h: the turn stays"
+free-stays : (t : Turn) (k : Control) → among (kind t) (free ∷ []) ≡ true → response t k ≡ Next t
+unfolding response
+free-stays t k f = if-false _ _ _ (apart _ (free ∷ []) (off ∷ []) tt f) ∙ if-false _ _ _ (apart _ (free ∷ []) (host ∷ []) tt f)
+
+module _ (job : Job) (c : Controller) (s : sound c ≡ true) (f : among (kind (c .turn)) (free ∷ []) ≡ true) where
+  abbrev count : ℕ
+  count = countOf (job .direction) (job .n)
+
+  abbrev counted : Controller
+  counted = withArmed (withRegisters (withArmed (withPointer c 0) false) (withCount (c .registers) count)) false
+
+  abbrev begun-as : Controller
+  begun-as = put (put (put c 0 0x00) 2 count) 3 0x60
+
+  begins-to : begun-as ≡ controlledTo counted (flagsOf 0x60) (c .turn)
+  unfolding flagsOf badCount _and_
+  begins-to =
+      let off-wire = apart _ (free ∷ []) wireTurns tt f in
+      let idle = status-idle (c .turn) (apart _ (free ∷ []) (host ∷ []) tt f) in
+      let e₁ = pointer-written c 0 s in
+      let s₁ = subst (λ (d : Controller). sound d ≡ true) e₁ (put-sound c 0 0 s) in
+      let e₂ = count-written (withArmed (withPointer c 0) false) count s₁ off-wire refl in
+      let s₂ = subst (λ (d : Controller). sound d ≡ true) e₂ (put-sound _ 2 _ s₁) in
+      let no-fault = ap (λ (x : ℕ). among x faults) idle ∙ among-has 0xF8 faults in
+      ap (λ (d : Controller). put (put d 2 count) 3 0x60) e₁ ∙ ap (λ (d : Controller). put d 3 0x60) e₂ ∙
+      control-written counted 0x60 (c .turn) (c .turn) s₂ refl off-wire no-fault refl (free-stays (c .turn) (flagsOf 0x60) f) refl
+
+  begins-sound : sound begun-as ≡ true
+  begins-sound = put-sound _ 3 0x60 (put-sound _ 2 _ (put-sound c 0 0 s))
+
+  starts-good : (payload : List ℕ) → length (c .buffer) ≡ 68 → Good job payload [] 0 (starts (begins job) c)
+  unfolding starts starting doesAll does keeps flagsOf
+  starts-good payload l =
+      let still = subst (λ (d : Controller). sound d ≡ true) begins-to begins-sound in
+      subst (λ (d : Controller). Good job payload [] 0 (progress d false Unfinished 0 0 (replicate 68 0))) (sym begins-to)
+      (good-waiting job payload _ (record { sound = still; count = refl; places = l; notes = length-replicate {A = ℕ} 68 0; lasts = refl }) refl
+      (within _ (free ∷ []) waitingTurns tt f))
+
+-- of a controller that is ready
+pub begun : (job : Job) (payload : List ℕ) (c : Controller) → ready c ≡ true → length (c .buffer) ≡ 68 →
+    Good job payload [] 0 (starts (begins job) c)
+unfolding ready
+begun job payload c r l = starts-good job c (and-left _ _ r) (and-left _ _ (and-right _ _ r)) payload l

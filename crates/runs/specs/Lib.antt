@@ -1,0 +1,2 @@
+-- Laws of one run: what they say.
+pub mod OneRun

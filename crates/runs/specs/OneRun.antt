@@ -1,0 +1,41 @@
+-- Laws of one run of a job, whatever the job, script and record (its buffer is a list here, so that it has 68 places is said). These are
+-- the statements; `always-fits` and `one-byte-each`, in proofs/Fits.antt and proofs/OneByteEach.antt, say that they hold.
+use mathlib.Core.List.{List, [], _∷_}
+use mathlib.Core.Path.{_≡_}
+use Prim.Native.Nat.{ℕ, zero, suc, _+_, _≤_}
+use lib.Dec.{eqb}
+use lib.ListN.{length}
+use Rattle.controller.specs.declared.record.Controller.{Controller}
+use Rattle.driver.specs.Run.{Report, jobOf}
+use Rattle.notation.specs.Choice.{if_then_else_}
+use Rattle.service.specs.declared.job.Job.{Job}
+
+-- what a job sends and hands up fits into what was lent, and a byte holds how many it sent: "The out record begins with those and its
+-- rest stays. The destination's first n bytes are written .."
+pub record Fits (destinationLength outLength : ℕ) (r : Report) : Type 0 where
+  pub sent : length (r .sent) ≤ outLength
+  pub handed : length (r .handed) ≤ destinationLength
+  pub few : length (r .sent) ≤ 69
+
+abbrev pub AlwaysFits : Type 0
+AlwaysFits = (job : Job) (payload : List ℕ) (destinationLength outLength : ℕ) (script : List ℕ) (c : Controller) →
+    length (c .buffer) ≡ 68 → Fits destinationLength outLength (jobOf job payload destinationLength outLength script c)
+
+-- event 6 among the first so many pairs
+unfoldable pub sentCount : ℕ → List ℕ → ℕ
+sentCount zero script = 0
+sentCount (suc events) [] = 0
+sentCount (suc events) (event ∷ []) = 0
+sentCount (suc events) (event ∷ argument ∷ rest) = if eqb event 6 then sentCount events rest + 1 else sentCount events rest
+
+-- "the bytes sent, one for each accepted event 6"
+abbrev pub OneByteEach : Type 0
+OneByteEach = (job : Job) (payload : List ℕ) (destinationLength outLength : ℕ) (script : List ℕ) (c : Controller) →
+    let r = jobOf job payload destinationLength outLength script c in length (r .sent) ≡ sentCount (r .result .events) script
+
+-- "What the bus carried in it are the arguments of the event 7 pairs before its script's first event 4, .. in script order."
+unfoldable pub carried : List ℕ → List ℕ
+carried [] = []
+carried (event ∷ []) = []
+carried (event ∷ argument ∷ rest) =
+    if eqb event 4 then [] else if eqb event 7 then argument ∷ carried rest else carried rest

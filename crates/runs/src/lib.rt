@@ -1,0 +1,1 @@
+// Laws of one run of a job, as theorems over the definitions. Nothing here runs.
