@@ -2,9 +2,9 @@
 use crate::extent::data_size;
 use crate::print::print;
 use crate::state::print_state;
-use console::work::work;
+use console::tell::tell_job;
 use controller::record::Controller;
-use numbers::jobs::job_for;
+use requests::jobs::job_for;
 
 // The whole group 03 KIND ADDRESS N ..: prints the job's three lines and the state after it. (A group that is whole passes the two
 // tests.)
@@ -18,9 +18,9 @@ pub(crate) fn work_job(c: Controller, group: &[u8]) -> Controller {
     }
     let job = job_for(group[1], group[2], group[3]);
     let mut text = [0u8; 1024];
-    let worked = work(c, job, &group[4..script - 2], &group[script..], &mut text);
-    print(&text, worked.end);
-    let next = worked.controller;
+    let told = tell_job(c, job, &group[4..script - 2], &group[script..], &mut text);
+    print(&text, told.end);
+    let next = told.controller;
     print_state(next);
     next
 }

@@ -5,7 +5,7 @@ use crate::jobs::work_job;
 use crate::state::print_buffer;
 use crate::state::print_reply;
 use controller::record::Controller;
-use numbers::groups::access;
+use requests::groups::access;
 
 // The longest trace.
 const LIMIT: usize = 65536;

@@ -15,12 +15,22 @@ use Rattle.controller.specs.Registers.{wrote, writePointer, readData, writeData
 use Rattle.controller.specs.Reply.{refuses, accepts, waitsFor, interruptsAt}
 use Rattle.controller.specs.Reset.{resetWith, completesReset, writePreset}
 use Rattle.controller.specs.Transfer.{cursor, isLast, dataOut, addressStatus, byteOut, acknowledgesLast, received, dataIn, slaveIn, byteIn}
-use Rattle.driver.specs.Request.{badLength, badAddress, lent, malformed, ready}
-use Rattle.driver.specs.Run.{closes, breaks, sending, taking, run, starts, handsUp, reports, declines, jobOf}
-use Rattle.driver.specs.Service.{countOf, workAt}
-use Rattle.driver.specs.Work.{put, reads, fetchOne, fetch, does, doesAll, follows, performs, serve}
+use Rattle.driver.specs.Run.{closes, breaks, sending, taking, run, handsUp, reports, declines, jobOf}
 use Rattle.notation.specs.Choice.{if_then_else_, _and_, _or_, among}
+use Rattle.service.specs.Act.{put, reads, fetchOne, fetch, readTimes, does, doesAll, follows, performs}
+use Rattle.service.specs.JobSteps.{countOf}
+use Rattle.service.specs.JobTable.{jobTable}
+use Rattle.service.specs.Progress.{starting}
+use Rattle.service.specs.Request.{badLength, badAddress, lent, malformed, ready}
+use Rattle.service.specs.Serve.{starts, serve}
 
 pub starred : StarredCases
-unfolding if_then_else_ _and_ _or_ among callsAll callsOwn matchOf bitOf byteOf addressOf directionOf flagsOf weighs readsAs kind statusOf edgeOf calledOf endOr afterEdge respondsAt response indirectAt barsRead barsWrite readSound readOf writeSound writeOf ownStart otherStart otherStop ownStop addressed addressByte outbid addressLost dataLost illegalEdge dataHeld clockHeld idle badArgument eventSound eventOf keeps controlled badCount enabled writeFlags writeControl hostSound moveSound sound wrote writePointer readData writeData atPointer stored writeAtPointer refuses accepts waitsFor interruptsAt resetWith completesReset writePreset cursor isLast dataOut addressStatus byteOut acknowledgesLast received dataIn slaveIn byteIn badLength badAddress lent malformed ready closes breaks sending taking run starts handsUp reports declines jobOf put reads countOf workAt fetchOne fetch does doesAll follows performs serve lastShown times
+unfolding if_then_else_ _and_ _or_ among callsAll callsOwn matchOf bitOf byteOf addressOf directionOf flagsOf weighs readsAs kind statusOf
+    edgeOf calledOf endOr afterEdge respondsAt response indirectAt barsRead barsWrite readSound readOf writeSound writeOf ownStart
+    otherStart otherStop ownStop addressed addressByte outbid addressLost dataLost illegalEdge dataHeld clockHeld idle badArgument
+    eventSound eventOf keeps controlled badCount enabled writeFlags writeControl hostSound moveSound sound wrote writePointer readData
+    writeData atPointer stored writeAtPointer refuses accepts waitsFor interruptsAt resetWith completesReset writePreset cursor isLast
+    dataOut addressStatus byteOut acknowledgesLast received dataIn slaveIn byteIn badLength badAddress lent malformed ready closes breaks
+    sending taking run starts handsUp reports declines jobOf put reads countOf jobTable starting fetchOne fetch readTimes does doesAll
+    follows performs serve lastShown times
 starred = refl

@@ -9,9 +9,9 @@ use Rattle.console.specs.JobText.{answerWord, countWord, eventsWord, ref
 use Rattle.text.specs.Text.{digit, hexOf, decimalOf, listed}
 use Rattle.controller.specs.declared.record.Controller.{Controller}
 use Rattle.driver.specs.Run.{Result, Report, jobOf}
-use Rattle.driver.specs.declared.job.Job.{Job}
-use Rattle.noninterference.proofs.Fits.{fits}
+use Rattle.service.specs.declared.job.Job.{Job}
 use Rattle.notation.proofs.Cases.{split}
+use Rattle.runs.proofs.Fits.{always-fits}
 
 -- a text of at most so many bytes, and two of them one after the other
 both : (xs ys : List ℕ) (m n : ℕ) → length xs ≤ m → length ys ≤ n → length (xs ++ ys) ≤ m + n
@@ -68,5 +68,5 @@ text-size r s h =
 -- Whatever the job, its text has at most 1,024 bytes.
 pub text-fits : (job : Job) (payload script : List ℕ) (c : Controller) → length (c .buffer) ≡ 68 → length (reportText (jobOf job payload 68 69 script c)) ≤ 1024
 text-fits job payload script c l =
-    let f = fits (record { job = job; payload = payload; destinationLength = 68; outLength = 69; script = script }) c l in
+    let f = always-fits job payload 68 69 script c l in
     text-size (jobOf job payload 68 69 script c) (f .sent) (f .handed)

@@ -1,3 +1,2 @@
 -- What the programs print.
 pub mod JobText
-pub mod Sent

@@ -1,4 +1,4 @@
 // The text of a job, which both programs print.
+mod handed;
 pub mod report;
-mod sent;
-pub mod work;
+pub mod tell;

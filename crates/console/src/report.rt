@@ -1,6 +1,6 @@
 // The three lines of a job.
 use answer::ending::Ending;
-use driver::job::JobResult;
+use driver::result::JobResult;
 use text::put::put_decimal;
 use text::put::put_listed;
 use text::put::put_word;

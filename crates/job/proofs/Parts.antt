@@ -9,10 +9,10 @@ use lib.Dec.{eqb}
 use lib.ListN.{length, take, drop, length-drop}
 use lib.Seq.{take-all}
 use Rattle.driver.specs.Run.{jobOf}
-use Rattle.driver.specs.declared.job.Job.{Job}
+use Rattle.service.specs.declared.job.Job.{Job}
 use Rattle.job.specs.Program.{kindOf, sizeOf, dataSize, badInput}
 use Rattle.notation.proofs.Cases.{or-left-off, or-right-off, split}
-use Rattle.numbers.specs.Jobs.{enabled}
+use Rattle.requests.specs.Jobs.{freshEnabled}
 
 -- a data length is a byte
 pub data-small : (input : List ℕ) → sizeOf input < 256 → dataSize input < 256
@@ -37,5 +37,5 @@ script-part input start n e =
     take-all (length input - start) (drop start input) (omega (arith, length-drop start input)) ∙ ap (λ (k : ℕ). drop k input) e
 
 pub same-job : {job job′ : Job} {payload payload′ script script′ : List ℕ} → job ≡ job′ → payload ≡ payload′ → script ≡ script′ →
-    jobOf job payload 68 69 script enabled ≡ jobOf job′ payload′ 68 69 script′ enabled
+    jobOf job payload 68 69 script freshEnabled ≡ jobOf job′ payload′ 68 69 script′ freshEnabled
 same-job j p s = cc

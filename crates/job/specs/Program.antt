@@ -6,9 +6,9 @@ use lib.Dec.{eqb, ltb}
 use lib.ListN.{length, getD, take, drop}
 use Rattle.console.specs.JobText.{reportText}
 use Rattle.driver.specs.Run.{Report, declines, jobOf}
-use Rattle.driver.specs.declared.job.Job.{Job}
+use Rattle.service.specs.declared.job.Job.{Job}
 use Rattle.notation.specs.Choice.{if_then_else_, _or_}
-use Rattle.numbers.specs.Jobs.{enabled, jobFor}
+use Rattle.requests.specs.Jobs.{freshEnabled, jobFor}
 
 -- "The program's input: kind (0 write, 1 read), address, n, data for a write, script"
 abbrev pub kindOf : List ℕ → ℕ
@@ -32,8 +32,8 @@ badInput input =
 -- what the input's job gives, with a destination of 68 and an out record of 69 bytes
 unfoldable pub programReport : List ℕ → Report
 programReport input =
-    if badInput input then declines enabled 21
-    else jobOf (jobIn input) (take (dataSize input) (drop 3 input)) 68 69 (drop (3 + dataSize input) input) enabled
+    if badInput input then declines freshEnabled 21
+    else jobOf (jobIn input) (take (dataSize input) (drop 3 input)) 68 69 (drop (3 + dataSize input) input) freshEnabled
 
 -- what is printed
 unfoldable pub programText : List ℕ → List ℕ

@@ -1,18 +1,18 @@
 // The program's input: kind, address, n, data for a write, script.
 use answer::ending::Ending;
 use console::report::put_job;
-use console::work::work;
-use driver::job::Job;
-use driver::job::JobResult;
-use numbers::jobs::enable;
-use numbers::jobs::job_for;
+use console::tell::tell_job;
+use driver::result::JobResult;
+use requests::jobs::fresh_enabled;
+use requests::jobs::job_for;
+use service::job::Job;
 ghost use mathlib.Core.Path.{_≡_};
 ghost use Prim.Native.Nat.{_≤_};
 ghost use lib.ListN.{length};
 ghost use Rattle.console.specs.JobText.{reportText};
 ghost use Rattle.text.specs.Text.{Holds};
 ghost use Rattle.driver.specs.Run.{declines, jobOf};
-ghost use Rattle.numbers.specs.Jobs.{enabled};
+ghost use Rattle.requests.specs.Jobs.{freshEnabled};
 ghost use Rattle.job.specs.Program.{jobIn, dataSize, badInput, programText};
 
 // The job that the input asks for.
@@ -53,25 +53,26 @@ fn is_bad(input: &[u8]) -> bool
 
 // The lines of bad input: answer 21.
 fn put_bad(text: &mut [u8]) -> usize
-    ensures { λ r. ⌜ Holds 0 (reportText (declines enabled 21)) (now (text .entry)) (now (text .exit)) r ⌝ }
+    ensures { λ r. ⌜ Holds 0 (reportText (declines freshEnabled 21)) (now (text .entry)) (now (text .exit)) r ⌝ }
 {
-    let controller = enable();
+    let controller = fresh_enabled();
     let ending = Ending::Malformed;
     let result = JobResult {
         controller,
         ending,
         count: 0,
         events: 0,
+        sent: 0,
     };
     put_job(text, 0, result, b"", b"")
 }
 
 // The job run on a fresh controller enabled by 40h, and its lines.
 fn put_run(job: Job, payload: &[u8], script: &[u8], text: &mut [u8]) -> usize
-    ensures { λ r. ⌜ Holds 0 (reportText (jobOf job (now (payload .entry)) 68 69 (now (script .entry)) enabled)) (now (text .entry)) (now (text .exit)) r ⌝ }
+    ensures { λ r. ⌜ Holds 0 (reportText (jobOf job (now (payload .entry)) 68 69 (now (script .entry)) freshEnabled)) (now (text .entry)) (now (text .exit)) r ⌝ }
 {
-    let worked = work(enable(), job, payload, script, text);
-    worked.end
+    let told = tell_job(fresh_enabled(), job, payload, script, text);
+    told.end
 }
 
 // The text printed of an input, put into lent memory. Gives its length.

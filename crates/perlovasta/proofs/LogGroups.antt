@@ -14,12 +14,12 @@ use Rattle.controller.specs.Reply.{Outcome, outcomeOf}
 use Rattle.controller.specs.declared.record.Controller.{Controller}
 use Rattle.controller.specs.declared.reply.Reply.{Reply}
 use Rattle.driver.proofs.Script.{drop-two}
-use Rattle.driver.proofs.Steps.{drop-one}
+use Rattle.driver.proofs.Lists.{drop-one}
 use Rattle.laws.proofs.Refusals.{Stays, read-stays, write-stays, event-stays}
 use Rattle.laws.proofs.Soundness.{read-stays-sound, write-stays-sound, event-stays-sound}
 use Rattle.notation.proofs.Cases.{split}
 use Rattle.notation.specs.Choice.{_or_}
-use Rattle.numbers.specs.Groups.{groupOf}
+use Rattle.requests.specs.Groups.{groupOf}
 use Rattle.perlovasta.specs.Log.{entryOf}
 use Rattle.perlovasta.specs.Trace.{badTrace, logOf}
 

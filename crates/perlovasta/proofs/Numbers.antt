@@ -12,7 +12,7 @@ use Rattle.control.specs.declared.turn.Edge.{Edge}
 use Rattle.notation.proofs.Cases.{split}
 use Rattle.notation.specs.Overlay.{laid}
 use Rattle.perlovasta.specs.Log.{edgeMark, calledMark}
-use Rattle.perlovasta.specs.Report.{lowFirst}
+use Rattle.perlovasta.specs.ReportBytes.{lowFirst}
 
 -- one byte of those that are left, and none
 pub low-one : (i left : ℕ) → i < 8 → lowFirst (8 - i) left ≡ left % 256 ∷ lowFirst (8 - (i + 1)) (left / 256)

@@ -29,10 +29,12 @@ after-eight at xs ys lent next n e =
     ∙ ap (λ (k : ℕ). laidAt (at + k) ys (laidAt at xs lent)) (sym n)
     ∙ after at xs ys lent
 
--- three bytes put at the start, and others laid after them
-pub after-three : (a b d : ℕ) (xs lent : List ℕ) → 2 < length lent → laidAt 3 xs (set (set (set lent 0 a) 1 b) 2 d) ≡ laid (a ∷ b ∷ d ∷ xs) lent
+-- four bytes put at the start, and others laid after them
+pub after-four : (a b d e : ℕ) (xs lent : List ℕ) → 3 < length lent →
+    laidAt 4 xs (set (set (set (set lent 0 a) 1 b) 2 d) 3 e) ≡ laid (a ∷ b ∷ d ∷ e ∷ xs) lent
 unfolding laidAt laid
-after-three a b d xs [] h = absurd (not-suc-le-zero h)
-after-three a b d xs (x ∷ []) h = absurd (not-suc-le-zero (le-of-suc-le-suc h))
-after-three a b d xs (x ∷ y ∷ []) h = absurd (not-suc-le-zero (le-of-suc-le-suc (le-of-suc-le-suc h)))
-after-three a b d xs (x ∷ y ∷ z ∷ lent) h = refl
+after-four a b d e xs [] h = absurd (not-suc-le-zero h)
+after-four a b d e xs (x ∷ []) h = absurd (not-suc-le-zero (le-of-suc-le-suc h))
+after-four a b d e xs (x ∷ y ∷ []) h = absurd (not-suc-le-zero (le-of-suc-le-suc (le-of-suc-le-suc h)))
+after-four a b d e xs (x ∷ y ∷ z ∷ []) h = absurd (not-suc-le-zero (le-of-suc-le-suc (le-of-suc-le-suc (le-of-suc-le-suc h))))
+after-four a b d e xs (x ∷ y ∷ z ∷ w ∷ lent) h = refl

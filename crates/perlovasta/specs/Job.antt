@@ -5,8 +5,8 @@ use Prim.Native.Nat.{ℕ}
 use lib.Dec.{ltb}
 use Rattle.driver.specs.Run.{Report, declines, jobOf}
 use Rattle.notation.specs.Choice.{if_then_else_}
-use Rattle.numbers.specs.Jobs.{enabled, jobFor}
-use Rattle.perlovasta.specs.Report.{reportOf}
+use Rattle.requests.specs.Jobs.{freshEnabled, jobFor}
+use Rattle.perlovasta.specs.ReportBytes.{reportOfJob}
 
 -- its result, and the bytes that the destination, the out record and the report begin with after it, their rest as it was
 pub record JobCall : Type 0 where
@@ -18,14 +18,14 @@ pub record JobCall : Type 0 where
 -- kind, address, n; data; the lengths of destination and out record; script. "of another kind is 21"
 unfoldable pub requestOf : ℕ → ℕ → ℕ → List ℕ → ℕ → ℕ → List ℕ → Report
 requestOf kind address n payload destinationLength outLength script =
-    if ltb 1 kind then declines enabled 21
-    else jobOf (jobFor kind address n) payload destinationLength outLength script enabled
+    if ltb 1 kind then declines freshEnabled 21
+    else jobOf (jobFor kind address n) payload destinationLength outLength script freshEnabled
 
 unfoldable pub tells : Report → JobCall
-tells r = record { done = true; handed = r .handed; sent = r .sent; told = reportOf (r .result) }
+tells r = record { done = true; handed = r .handed; sent = r .sent; told = reportOfJob r }
 
--- the same with the length of the report. A report under 11 bytes: nothing is done
+-- the same with the length of the report. A report under 12 bytes: nothing is done
 unfoldable pub jobCall : ℕ → ℕ → ℕ → List ℕ → ℕ → ℕ → List ℕ → ℕ → JobCall
 jobCall kind address n payload destinationLength outLength script reportLength =
-    if ltb reportLength 11 then record { done = false; handed = []; sent = []; told = [] }
+    if ltb reportLength 12 then record { done = false; handed = []; sent = []; told = [] }
     else tells (requestOf kind address n payload destinationLength outLength script)

@@ -1,5 +1,5 @@
 -- What the library's two functions give.
-pub mod Report
+pub mod ReportBytes
 pub mod Job
 pub mod Log
 pub mod Trace

@@ -7,7 +7,7 @@ use lib.ListN.{length}
 use Rattle.controller.specs.Reset.{fresh}
 use Rattle.controller.specs.declared.record.Controller.{Controller}
 use Rattle.notation.specs.Choice.{if_then_else_, _or_}
-use Rattle.numbers.specs.Groups.{groupOf}
+use Rattle.requests.specs.Groups.{groupOf}
 use Rattle.perlovasta.specs.Log.{entryOf}
 
 -- its result, and the bytes that the log begins with after it, its rest as it was

@@ -1,5 +1,5 @@
 // The two functions that C and Rust call. C passes each slice as a pointer and a length.
-use crate::job::run;
+use crate::job::run_request;
 use crate::report::put_report;
 use crate::trace::is_bad;
 use crate::trace::put_log;
@@ -10,8 +10,8 @@ ghost use Rattle.notation.specs.Overlay.{laid};
 ghost use Rattle.perlovasta.specs.Job.{jobCall};
 ghost use Rattle.perlovasta.specs.Trace.{traceCall};
 
-// One job on a fresh controller enabled by 40h. The report begins with 11 bytes: the answer, the number beside it, the count, and the
-// events used as eight bytes, low byte first. False where the report is shorter: nothing is done then.
+// One job on a fresh controller enabled by 40h. The report begins with 12 bytes: the answer, the number beside it, the count, how
+// many bytes were sent, and the events used as eight bytes, low byte first. False where the report is shorter: nothing is done then.
 #[no_mangle]
 pub extern "C" fn perlovasta_job(
     kind: u8,
@@ -28,11 +28,11 @@ pub extern "C" fn perlovasta_job(
     ensures sent { λ _. ⌜ now (out .exit) ≡ laid ((jobCall kind address n (now (payload .entry)) (length (now (destination .entry))) (length (now (out .entry))) (now (script .entry)) (length (now (report .entry)))) .sent) (now (out .entry)) ⌝ }
     ensures told { λ _. ⌜ now (report .exit) ≡ laid ((jobCall kind address n (now (payload .entry)) (length (now (destination .entry))) (length (now (out .entry))) (now (script .entry)) (length (now (report .entry)))) .told) (now (report .entry)) ⌝ }
 {
-    let short = report.len() < 11;
+    let short = report.len() < 12;
     if short {
         return false;
     }
-    let result = run(kind, address, n, payload, destination, out, script);
+    let result = run_request(kind, address, n, payload, destination, out, script);
     put_report(report, result);
     true
 }

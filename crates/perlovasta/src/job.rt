@@ -1,9 +1,9 @@
 // The job that a call asks for.
 use answer::ending::Ending;
-use driver::job::JobResult;
 use driver::job::run_job;
-use numbers::jobs::enable;
-use numbers::jobs::job_for;
+use driver::result::JobResult;
+use requests::jobs::fresh_enabled;
+use requests::jobs::job_for;
 ghost use mathlib.Core.Path.{_≡_};
 ghost use lib.ListN.{length};
 ghost use Rattle.driver.specs.Run.{resultOf};
@@ -11,7 +11,7 @@ ghost use Rattle.notation.specs.Overlay.{laid};
 ghost use Rattle.perlovasta.specs.Job.{requestOf};
 
 // Runs it; of another kind it is answered 21.
-pub(crate) fn run(
+pub(crate) fn run_request(
     kind: u8,
     address: u8,
     n: u8,
@@ -23,8 +23,9 @@ pub(crate) fn run(
     ensures result { λ r. ⌜ resultOf r ≡ (requestOf kind address n (now (payload .entry)) (length (now (destination .entry))) (length (now (out .entry))) (now (script .entry))) .result ⌝ }
     ensures handed { λ _. ⌜ now (destination .exit) ≡ laid ((requestOf kind address n (now (payload .entry)) (length (now (destination .entry))) (length (now (out .entry))) (now (script .entry))) .handed) (now (destination .entry)) ⌝ }
     ensures sent { λ _. ⌜ now (out .exit) ≡ laid ((requestOf kind address n (now (payload .entry)) (length (now (destination .entry))) (length (now (out .entry))) (now (script .entry))) .sent) (now (out .entry)) ⌝ }
+    ensures number { λ r. ⌜ r .sent ≡ length ((requestOf kind address n (now (payload .entry)) (length (now (destination .entry))) (length (now (out .entry))) (now (script .entry))) .sent) ⌝ }
 {
-    let controller = enable();
+    let controller = fresh_enabled();
     let strange = 1 < kind;
     if strange {
         let ending = Ending::Malformed;
@@ -33,6 +34,7 @@ pub(crate) fn run(
             ending,
             count: 0,
             events: 0,
+            sent: 0,
         };
     }
     let job = job_for(kind, address, n);

@@ -1,12 +1,12 @@
 // The report of a job.
 use crate::memory::put_eight;
-use driver::job::JobResult;
+use driver::result::JobResult;
 ghost use mathlib.Core.Path.{_≡_};
 ghost use Prim.Native.Nat.{_≤_};
 ghost use lib.ListN.{length};
 ghost use Rattle.driver.specs.Run.{resultOf};
 ghost use Rattle.notation.specs.Overlay.{laid};
-ghost use Rattle.perlovasta.specs.Report.{lowFirst, reportOf};
+ghost use Rattle.perlovasta.specs.ReportBytes.{lowFirst, reportBytes};
 
 // A number as eight bytes, low byte first.
 fn low_first(n: usize) -> [u8; 8]
@@ -23,14 +23,15 @@ fn low_first(n: usize) -> [u8; 8]
     bytes
 }
 
-// The 11 bytes, at the start of the report.
+// The 12 bytes, at the start of the report.
 pub(crate) fn put_report(report: &mut [u8], result: JobResult)
-    requires { ⌜ 11 ≤ length (now report) ⌝ }
-    ensures { λ _. ⌜ now (report .exit) ≡ laid (reportOf (resultOf result)) (now (report .entry)) ⌝ }
+    requires { ⌜ (12 ≤ length (now report)) × (result .sent ≤ 69) ⌝ }
+    ensures { λ _. ⌜ now (report .exit) ≡ laid (reportBytes (resultOf result) (result .sent)) (now (report .entry)) ⌝ }
 {
     let ending = result.ending;
     report[0] = ending.number();
     report[1] = ending.beside();
     report[2] = result.count;
-    put_eight(report, 3, low_first(result.events));
+    report[3] = result.sent as u8;
+    put_eight(report, 4, low_first(result.events));
 }

@@ -2,7 +2,7 @@
 use crate::log::log_entry;
 use crate::memory::put_eight;
 use controller::record::Controller;
-use numbers::groups::access;
+use requests::groups::access;
 ghost use mathlib.Core.Path.{_≡_};
 ghost use mathlib.Core.Bool.{true};
 ghost use Prim.Native.Nat.{_*_, _/_, _≤_};

@@ -13,4 +13,5 @@ pub mod Events
 pub mod Begins
 pub mod Facts
 pub mod Fits
+pub mod HandsUpSoMany
 pub mod OneByteEach

@@ -1,13 +1,14 @@
 -- Laws of one run of a job, whatever the job, script and record (its buffer is a list here, so that it has 68 places is said). These are
--- the statements; `always-fits` and `one-byte-each`, in proofs/Fits.antt and proofs/OneByteEach.antt, say that they hold.
+-- the statements; `always-fits`, `one-byte-each` and `hands-up-so-many`, each in the file of its name in proofs/, say that they hold.
 use mathlib.Core.List.{List, [], _∷_}
 use mathlib.Core.Path.{_≡_}
 use Prim.Native.Nat.{ℕ, zero, suc, _+_, _≤_}
 use lib.Dec.{eqb}
 use lib.ListN.{length}
+use Rattle.address.specs.Number.{bitOf}
 use Rattle.controller.specs.declared.record.Controller.{Controller}
 use Rattle.driver.specs.Run.{Report, jobOf}
-use Rattle.notation.specs.Choice.{if_then_else_}
+use Rattle.notation.specs.Choice.{if_then_else_, _and_}
 use Rattle.service.specs.declared.job.Job.{Job}
 
 -- what a job sends and hands up fits into what was lent, and a byte holds how many it sent: "The out record begins with those and its
@@ -32,6 +33,15 @@ sentCount (suc events) (event ∷ argument ∷ rest) = if eqb event 6 then sentC
 abbrev pub OneByteEach : Type 0
 OneByteEach = (job : Job) (payload : List ℕ) (destinationLength outLength : ℕ) (script : List ℕ) (c : Controller) →
     let r = jobOf job payload destinationLength outLength script c in length (r .sent) ≡ sentCount (r .result .events) script
+
+-- "Handed up are the destination's first n bytes for answer 0 of a read, else none": so many (R is 1 for a read)
+unfoldable pub handedCount : Job → ℕ → ℕ
+handedCount job answer = if eqb answer 0 and eqb (bitOf (job .direction)) 1 then job .n else 0
+
+abbrev pub HandsUpSoMany : Type 0
+HandsUpSoMany = (job : Job) (payload : List ℕ) (destinationLength outLength : ℕ) (script : List ℕ) (c : Controller) →
+    length (c .buffer) ≡ 68 →
+    let r = jobOf job payload destinationLength outLength script c in length (r .handed) ≡ handedCount job (r .result .answer)
 
 -- "What the bus carried in it are the arguments of the event 7 pairs before its script's first event 4, .. in script order."
 unfoldable pub carried : List ℕ → List ℕ

@@ -13,7 +13,8 @@ returns : tie.Need-returns
 unfolding resultOf declines
 returns c =
     said _ _ _ _
-    (ap (λ (d : Controller). jobText (record { next = d; answer = 21; refused = 0; count = 0; events = 0 }) [] []) (c .before .before .before .before .before .before .enable .ensures))
+    (ap (λ (d : Controller). jobText (record { next = d; answer = 21; refused = 0; count = 0; events = 0 }) [] [])
+    (c .before .before .before .before .before .before .fresh-enabled .ensures))
     (c .before .before .put-job .ensures)
 
 pub put-bad-spec : {M : Type 1} → statement M

@@ -13,8 +13,9 @@ returns : tie.Need-returns
 returns c =
     let args = c .before .before .before .before .before .before .before .before .args in
     said _ _ _ _
-    (ap (λ (d : Controller). reportText (jobOf (args .job) (now (args .payload)) 68 69 (now (args .script)) d)) (c .before .before .before .before .enable .ensures))
-    (c .before .before .work .ensures .1)
+    (ap (λ (d : Controller). reportText (jobOf (args .job) (now (args .payload)) 68 69 (now (args .script)) d))
+    (c .before .before .before .before .fresh-enabled .ensures))
+    (c .before .before .tell-job .ensures .1)
 
 pub put-run-spec : {M : Type 1} → statement M
 put-run-spec = tie.close (tie.spec (λ c κs. search needs) (λ c κs. search needs) (λ c. search needs) returns)

@@ -7,7 +7,7 @@ use borrow.Author.Needs.{needs}
 use lib.ListN.{length, length-set}
 use Rattle.notation.proofs.Overlay.{at-start, none, one-more}
 use Rattle.notation.specs.Overlay.{laid, laidAt}
-use Rattle.perlovasta.specs.Report.{lowFirst}
+use Rattle.perlovasta.specs.ReportBytes.{lowFirst}
 use Rattle.perlovasta.proofs.Numbers.{low-one, low-none, low-all}
 use Rattle.perlovasta.proofs.report.low_first.Statement.{statement}
 use Rattle.perlovasta.proofs.report.low_first.Tie as tie

@@ -22,7 +22,7 @@ use Rattle.perlovasta.proofs.trace.put_log.Tie as tie
 use Rattle.perlovasta.proofs.trace.put_log.Reads as reads
 use Rattle.perlovasta.proofs.trace.put_log.Lts as lts
 use Rattle.answer.proofs.Answer.refused.Reads as refused-reads
-use Rattle.numbers.proofs.groups.access.Reads as access-reads
+use Rattle.requests.proofs.groups.access.Reads as access-reads
 use Rattle.perlovasta.proofs.log.log_entry.Reads as log-entry-reads
 use Rattle.perlovasta.proofs.memory.put_eight.Reads as put-eight-reads
 

@@ -1,0 +1,2 @@
+-- Laws of what requests run on.
+pub mod Places
