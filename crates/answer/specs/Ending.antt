@@ -1,7 +1,8 @@
 -- Document 01, Jobs, the table of answers: the number of each, and the number beside it.
 use Prim.Native.Nat.{ℕ}
 use Rattle.answer.specs.Refusal.{refusalNumber}
-use Rattle.answer.specs.declared.ending.Ending.the-variants.{Done, Malformed, NotReady, AddressNacked, DataNacked, Lost, Fault, Unfinished, Refused, Reset}
+use Rattle.answer.specs.declared.ending.Ending.the-variants.{Done, Malformed, NotReady, AddressNacked, DataNacked, Lost, Fault}
+use Rattle.answer.specs.declared.ending.Ending.the-variants.{Unfinished, Refused, Reset}
 use Rattle.answer.specs.declared.ending.Ending.{Ending}
 
 -- "0 done, after own STOP", "21 n not 1..68 ..", "22 turn not Free ..", "23 address NACKed", "24 30h", "25 38h", "26 00h, 70h, 78h",

@@ -2,7 +2,8 @@
 use Prim.Native.Nat.{ℕ}
 use Rattle.answer.specs.declared.Answer.the-variants.{Accepted, Refused}
 use Rattle.answer.specs.declared.Answer.{Answer}
-use Rattle.answer.specs.declared.Refusal.the-variants.{OutOfRange, BadArgument, OnTheWire, Locked, Unlisted, BadCount, BufferEnd, Unexpected, Inaccessible, Unsound}
+use Rattle.answer.specs.declared.Refusal.the-variants.{OutOfRange, BadArgument, OnTheWire, Locked, Unlisted, BadCount}
+use Rattle.answer.specs.declared.Refusal.the-variants.{BufferEnd, Unexpected, Inaccessible, Unsound}
 use Rattle.answer.specs.declared.Refusal.{Refusal}
 
 -- "No": 1 register over 3, or event not 1..14; 2 event argument; 3 wire turn; 4 I2CCON write at 00h, 70h or 78h; 5 not listed;

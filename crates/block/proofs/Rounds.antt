@@ -52,7 +52,8 @@ pub lay-one : (n i : ℕ) (c next : Controller) (value : ℕ) (lent : List ℕ) 
 unfolding valuesRead
 lay-one n i c next value lent g h l =
     let e : n - i ≡ suc (n - (i + 1)) = omega arith in
-    one-more i value (valuesRead (n - (i + 1)) next) lent (omega arith) ∙ ap (λ (xs : List ℕ). laidAt i xs lent) (cc (g .0, g .1, ap (λ (k : ℕ). valuesRead k c) e))
+    one-more i value (valuesRead (n - (i + 1)) next) lent (omega arith) ∙
+    ap (λ (xs : List ℕ). laidAt i xs lent) (cc (g .0, g .1, ap (λ (k : ℕ). valuesRead k c) e))
 
 pub lay-done : (n i : ℕ) (c : Controller) (lent : List ℕ) → n ≤ i → length lent ≡ n → laidAt i (valuesRead (n - i) c) lent ≡ lent
 lay-done n i c lent h l = past-end i _ lent (omega arith)

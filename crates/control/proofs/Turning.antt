@@ -8,7 +8,8 @@ use denote.Enum.Declared.{tagOf}
 use lib.Dec.{T}
 use types.Run.{OneOf}
 use Rattle.control.specs.Turn.{off, host, free, busy, listen, address, send, receive, slaveReceive, slaveSend, stopping, restarting, kind, statusOf}
-use Rattle.control.specs.declared.turn.Turn.the-variants.{Off, Host, Free, Busy, Listen, Address, Send, Receive, SlaveReceive, SlaveSend, Stopping, Restarting}
+use Rattle.control.specs.declared.turn.Turn.the-variants.{Off, Host, Free, Busy, Listen}
+use Rattle.control.specs.declared.turn.Turn.the-variants.{Address, Send, Receive, SlaveReceive, SlaveSend, Stopping, Restarting}
 use Rattle.control.specs.declared.turn.Turn.{Turn}
 use Rattle.notation.proofs.Among.{has, every, same, among-has, keys-in}
 use Rattle.notation.specs.Choice.{among, if_then_else_}

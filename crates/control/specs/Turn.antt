@@ -7,7 +7,8 @@ use Rattle.control.specs.declared.turn.Called.the-variants.{Own}
 use Rattle.control.specs.declared.turn.Called.{Called}
 use Rattle.control.specs.declared.turn.Edge.the-variants.{Stop}
 use Rattle.control.specs.declared.turn.Edge.{Edge}
-use Rattle.control.specs.declared.turn.Turn.the-variants.{Off, Host, Free, Busy, Listen, Address, Send, Receive, SlaveReceive, SlaveSend, Stopping, Restarting}
+use Rattle.control.specs.declared.turn.Turn.the-variants.{Off, Host, Free, Busy, Listen}
+use Rattle.control.specs.declared.turn.Turn.the-variants.{Address, Send, Receive, SlaveReceive, SlaveSend, Stopping, Restarting}
 use Rattle.control.specs.declared.turn.Turn.{Turn}
 use Rattle.notation.specs.Choice.{among}
 

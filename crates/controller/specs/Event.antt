@@ -2,7 +2,8 @@
 use mathlib.Core.Bool.{Bool, false}
 use Prim.Native.Nat.{ℕ}
 use lib.Dec.{eqb, ltb}
-use Rattle.controller.specs.Condition.{ownStart, otherStart, otherStop, ownStop, addressByte, addressLost, dataLost, illegalEdge, dataHeld, clockHeld, idle}
+use Rattle.controller.specs.Condition.{ownStart, otherStart, otherStop, ownStop, addressByte}
+use Rattle.controller.specs.Condition.{addressLost, dataLost, illegalEdge, dataHeld, clockHeld, idle}
 use Rattle.controller.specs.Record.{sound}
 use Rattle.controller.specs.Reply.{Outcome, refuses, accepts}
 use Rattle.controller.specs.Reset.{reset}

@@ -7,7 +7,8 @@ use native.Mathlib.Omega.{arith}
 use borrow.Author.Tests.{eqb-false, ltb-false, le-leb, lt-ltb}
 use lib.Dec.{eqb, leb, ltb, lit≤}
 use Rattle.control.specs.Flags.{flagsOf}
-use Rattle.control.specs.Turn.{off, host, free, busy, listen, address, send, receive, slaveReceive, slaveSend, stopping, restarting, wireTurns, dataTurns, kind, statusOf, edgeOf}
+use Rattle.control.specs.Turn.{off, host, free, busy, listen, address, send, receive, slaveReceive, slaveSend, stopping, restarting}
+use Rattle.control.specs.Turn.{wireTurns, dataTurns, kind, statusOf, edgeOf}
 use Rattle.control.specs.Writing.{endOr, afterEdge, respondsAt, response}
 use Rattle.control.specs.declared.flags.Control.{Control}
 use Rattle.control.specs.declared.turn.Edge.the-variants.{Stop, Start}
@@ -84,7 +85,8 @@ stored-speed g pointer value h =
     (λ e. split P (eqb pointer 3) _ _ (λ e. h) (λ e. split P (eqb pointer 4) _ _ (λ e. h) (λ e. omega arith)))))
 
 -- a register is written only out of the wire turns, where BC bounds no move
-write-at-pointer : (c : Controller) (value : ℕ) → sound c ≡ true → (eqb (c .pointer) 5 ≡ false → among (kind (c .turn)) wireTurns ≡ false) → Kept (writeAtPointer c value)
+write-at-pointer : (c : Controller) (value : ℕ) → sound c ≡ true → (eqb (c .pointer) 5 ≡ false → among (kind (c .turn)) wireTurns ≡ false) →
+    Kept (writeAtPointer c value)
 unfolding writeAtPointer moveSound
 write-at-pointer c value s idle =
     let p = parts c s in
@@ -117,11 +119,13 @@ module _ (c : Controller) (k : Control) (t : Turn) (s : sound c ≡ true) (h : a
         move = moves (k .mode) (among (kind t) dataTurns) b;
       }))
     where
-      moves : (mode data-turn : Bool) → (mode and data-turn and (eqb (byteCount c) 0 or ltb 68 (byteCount c))) ≡ false → (if data-turn then (if mode then ltb 0 (byteCount c) and leb (byteCount c) 68 else eqb 0 0) else true) ≡ true
+      moves : (mode data-turn : Bool) → (mode and data-turn and (eqb (byteCount c) 0 or ltb 68 (byteCount c))) ≡ false →
+          (if data-turn then (if mode then ltb 0 (byteCount c) and leb (byteCount c) 68 else eqb 0 0) else true) ≡ true
       moves mode false e = refl
       moves false true e = refl
       moves true true e =
-          let f = sym (and-on true (true and (eqb (byteCount c) 0 or ltb 68 (byteCount c))) refl ∙ and-on true (eqb (byteCount c) 0 or ltb 68 (byteCount c)) refl) ∙ e in
+          let outside = eqb (byteCount c) 0 or ltb 68 (byteCount c) in
+          let f = sym (and-on true (true and outside) refl ∙ and-on true outside refl) ∙ e in
           let some = eqb-false (byteCount c) 0 (or-left-off (eqb (byteCount c) 0) (ltb 68 (byteCount c)) f) in
           let few = ltb-false 68 (byteCount c) (or-right-off (eqb (byteCount c) 0) (ltb 68 (byteCount c)) f) in
           and-true (ltb 0 (byteCount c)) (leb (byteCount c) 68) (lt-ltb 0 (byteCount c) (omega arith)) (le-leb (byteCount c) 68 few)

@@ -14,7 +14,8 @@ use Rattle.control.specs.Turn.{send, receive, slaveReceive, slaveSend, dataTurn
 use Rattle.control.specs.declared.turn.Called.the-variants as called
 use Rattle.control.specs.declared.turn.Called.{Called}
 use Rattle.controller.proofs.SoundParts.{parts, whole, moving}
-use Rattle.controller.specs.Condition.{withoutStop, ownStart, otherStart, otherStop, ownStop, addressed, addressByte, outbid, addressLost, dataLost, illegalEdge, dataHeld, clockHeld, idle}
+use Rattle.controller.specs.Condition.{withoutStop, ownStart, otherStart, otherStop, ownStop, addressed, addressByte}
+use Rattle.controller.specs.Condition.{outbid, addressLost, dataLost, illegalEdge, dataHeld, clockHeld, idle}
 use Rattle.controller.specs.Event.{eventSound}
 use Rattle.controller.specs.Record.{byteCount, givenStatuses, moveSound, sound}
 use Rattle.controller.specs.Setters.{withControl}
@@ -110,7 +111,9 @@ module _ (c : Controller) (s : sound c ≡ true) (t : among (kind (c .turn)) dat
       was : (if c .control .mode then ltb (c .moved) (byteCount c) and leb (byteCount c) 68 else eqb (c .moved) 0) ≡ true
       was = sym (if-true (among (kind (c .turn)) dataTurns) _ _ t) ∙ parts c s .move
 
-      step : (mode : Bool) → (if mode then eqb (c .moved + 1) (byteCount c) else true) ≡ false → (if mode then ltb (c .moved) (byteCount c) and leb (byteCount c) 68 else eqb (c .moved) 0) ≡ true → (if mode then ltb (c .moved + 1) (byteCount c) and leb (byteCount c) 68 else eqb (c .moved + 1) 0) ≡ true
+      step : (mode : Bool) → (if mode then eqb (c .moved + 1) (byteCount c) else true) ≡ false →
+          (if mode then ltb (c .moved) (byteCount c) and leb (byteCount c) 68 else eqb (c .moved) 0) ≡ true →
+          (if mode then ltb (c .moved + 1) (byteCount c) and leb (byteCount c) 68 else eqb (c .moved + 1) 0) ≡ true
       step true l w =
           let below = ltb-true (c .moved) (byteCount c) (and-left (ltb (c .moved) (byteCount c)) (leb (byteCount c) 68) w) in
           let short = eqb-false (c .moved + 1) (byteCount c) l in
@@ -163,7 +166,9 @@ byte-in c byte s =
     (λ e. split Kept (among (kind (c .turn)) (slaveReceive ∷ [])) _ _
     (λ t. slave-in c byte (calledOf (c .turn)) s (within _ (slaveReceive ∷ []) dataTurns tt t)) (λ e. refused c 8 s))
 
-ruleset events = (own-start, other-start, other-stop, own-stop, address-byte, byte-out, byte-in, address-lost, data-lost, illegal-edge, data-held, clock-held, idle-time, either)
+ruleset passing = (own-start, other-start, other-stop, own-stop, address-byte, byte-out, byte-in)
+
+ruleset events = (passing, address-lost, data-lost, illegal-edge, data-held, clock-held, idle-time, either)
 
 pub event-kept : (c : Controller) (number argument : ℕ) → sound c ≡ true → Kept (eventSound c number argument)
 unfolding eventSound

@@ -13,7 +13,8 @@ use Rattle.control.specs.declared.turn.Turn.{Turn}
 use Rattle.control.specs.declared.writing.Response.the-variants.{Next, Unlisted}
 use Rattle.control.specs.declared.writing.Response.{Response}
 use Rattle.controller.specs.Access.{readSound, readOf, writeSound, writeOf}
-use Rattle.controller.specs.Condition.{ownStart, otherStart, otherStop, ownStop, addressed, addressByte, outbid, addressLost, dataLost, illegalEdge, dataHeld, clockHeld, idle}
+use Rattle.controller.specs.Condition.{ownStart, otherStart, otherStop, ownStop, addressed, addressByte}
+use Rattle.controller.specs.Condition.{outbid, addressLost, dataLost, illegalEdge, dataHeld, clockHeld, idle}
 use Rattle.controller.specs.Event.{eventSound, eventOf}
 use Rattle.controller.specs.I2ccon.{controlled, enabled, writeFlags, writeControl}
 use Rattle.controller.specs.Registers.{wrote, writePointer, readData, writeData, writeAtPointer}
@@ -135,7 +136,9 @@ byte-in : (c : Controller) (byte : ℕ) → Stays c (byteIn c byte)
 unfolding byteIn
 byte-in c byte = search (data-in, slave-in, ends)
 
-ruleset events = (own-start, other-start, other-stop, own-stop, address-byte, byte-out, byte-in, address-lost, data-lost, illegal-edge, data-held, clock-held, idle-time, ends)
+ruleset passing = (own-start, other-start, other-stop, own-stop, address-byte, byte-out, byte-in)
+
+ruleset events = (passing, address-lost, data-lost, illegal-edge, data-held, clock-held, idle-time, ends)
 
 event-sound : (c : Controller) (number argument : ℕ) → Stays c (eventSound c number argument)
 unfolding eventSound

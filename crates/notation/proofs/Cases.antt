@@ -78,7 +78,9 @@ unfolding if_then_else_
 split P true x y f g = f refl
 split P false x y f g = g refl
 
-pub ruleset cases = (if-true, if-false, and-true, and-no-left, and-no-right, or-left, or-right, or-false, and-on, or-on, lt-ltb, le-ltb, le-leb, lt-leb, eq-eqb, ne-eqb, needs)
+pub ruleset comparisons = (lt-ltb, le-ltb, le-leb, lt-leb, eq-eqb, ne-eqb)
+
+pub ruleset cases = (if-true, if-false, and-true, and-no-left, and-no-right, or-left, or-right, or-false, and-on, or-on, comparisons, needs)
 
 -- the same where a test is a call
 pub ruleset calls = (by-call, cases)

@@ -24,8 +24,9 @@ either P a b f g = go (ltb a b) refl
 place-min : (at n room : ℕ) → at ≤ room → placeAfter at n room ≡ min (at + n) room
 unfolding placeAfter
 place-min at n room h =
-    split (λ (r : ℕ). r ≡ min (at + n) room) (ltb (at + n) room) (at + n) _ (λ e. omega (arith, ltb-true (at + n) room e))
-    (λ e. split (λ (r : ℕ). r ≡ min (at + n) room) (ltb at room) room at (λ _. omega (arith, ltb-false (at + n) room e)) (λ f. omega (arith, ltb-false at room f)))
+    let P : ℕ → Type 0 = λ r. r ≡ min (at + n) room in
+    split P (ltb (at + n) room) (at + n) _ (λ e. omega (arith, ltb-true (at + n) room e))
+    (λ e. split P (ltb at room) room at (λ _. omega (arith, ltb-false (at + n) room e)) (λ f. omega (arith, ltb-false at room f)))
 
 place-past : (at n room : ℕ) → room ≤ at → placeAfter at n room ≡ at
 unfolding placeAfter

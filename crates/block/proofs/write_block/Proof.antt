@@ -34,7 +34,8 @@ loop-again c =
       omega arith,
       reach-stays (l .next) _ _ below ∙ l .inv .1,
       l .inv .2,
-      ap (written (drop (l .i + 1) bytes)) (sym (write-inside (l .next) x below .0)) ∙ sym (write-one bytes (l .i) (l .next) (c .before .before .loop-test .taken)) ∙ l .inv .3,
+      ap (written (drop (l .i + 1) bytes)) (sym (write-inside (l .next) x below .0)) ∙
+          sym (write-one bytes (l .i) (l .next) (c .before .before .loop-test .taken)) ∙ l .inv .3,
     )
 
 returns-2 : tie.Need-returns-2 Inv-loop μ-loop

@@ -61,7 +61,22 @@ returns-13 c = search (keys-in (0xA8 ∷ 0xB0 ∷ 0xB8 ∷ []) (c .before .args 
 
 returns-14 : tie.Need-returns-14
 unfolding respondsAt
-returns-14 c = search (none-of (0xA8 ∷ 0xB0 ∷ 0xB8 ∷ []) (c .before .args .status) (c .match .rest .1), none-of (0xA0 ∷ []) (c .before .args .status) (c .match .rest .0 .1), none-of (0x88 ∷ 0xC0 ∷ 0xC8 ∷ 0xE8 ∷ []) (c .before .args .status) (c .match .rest .0 .0 .1), none-of (0xD0 ∷ 0xD8 ∷ 0xE0 ∷ []) (c .before .args .status) (c .match .rest .0 .0 .0 .1), none-of (0x60 ∷ 0x68 ∷ 0x80 ∷ []) (c .before .args .status) (c .match .rest .0 .0 .0 .0 .1), none-of (0x38 ∷ []) (c .before .args .status) (c .match .rest .0 .0 .0 .0 .0 .1), none-of (0x48 ∷ 0x58 ∷ []) (c .before .args .status) (c .match .rest .0 .0 .0 .0 .0 .0 .1), none-of (0x40 ∷ 0x50 ∷ []) (c .before .args .status) (c .match .rest .0 .0 .0 .0 .0 .0 .0 .1), none-of (0x18 ∷ 0x20 ∷ 0x28 ∷ 0x30 ∷ []) (c .before .args .status) (c .match .rest .0 .0 .0 .0 .0 .0 .0 .0 .1), none-of (0x08 ∷ 0x10 ∷ []) (c .before .args .status) (c .match .rest .0 .0 .0 .0 .0 .0 .0 .0 .0 .1), cases)
+returns-14 c =
+    let status = c .before .args .status in
+    let rest = c .match .rest in
+    search (
+      none-of (0xA8 ∷ 0xB0 ∷ 0xB8 ∷ []) status (rest .1),
+      none-of (0xA0 ∷ []) status (rest .0 .1),
+      none-of (0x88 ∷ 0xC0 ∷ 0xC8 ∷ 0xE8 ∷ []) status (rest .0 .0 .1),
+      none-of (0xD0 ∷ 0xD8 ∷ 0xE0 ∷ []) status (rest .0 .0 .0 .1),
+      none-of (0x60 ∷ 0x68 ∷ 0x80 ∷ []) status (rest .0 .0 .0 .0 .1),
+      none-of (0x38 ∷ []) status (rest .0 .0 .0 .0 .0 .1),
+      none-of (0x48 ∷ 0x58 ∷ []) status (rest .0 .0 .0 .0 .0 .0 .1),
+      none-of (0x40 ∷ 0x50 ∷ []) status (rest .0 .0 .0 .0 .0 .0 .0 .1),
+      none-of (0x18 ∷ 0x20 ∷ 0x28 ∷ 0x30 ∷ []) status (rest .0 .0 .0 .0 .0 .0 .0 .0 .1),
+      none-of (0x08 ∷ 0x10 ∷ []) status (rest .0 .0 .0 .0 .0 .0 .0 .0 .0 .1),
+      cases,
+    )
 
 pub respond-at-spec : {M : Type 1} → statement M
 respond-at-spec =

@@ -24,7 +24,10 @@ returns-4 c = search (key-is 6 (c .before .args .number) (c .match .keys4), case
 
 returns-5 : tie.Need-returns-5
 unfolding badArgument
-returns-5 c = search (ne-eqb (c .before .args .number) 6 (c .match .rest .1), ne-eqb (c .before .args .number) 8 (c .match .rest .0 .1), ne-eqb (c .before .args .number) 7 (c .match .rest .0 .0 .1), ne-eqb (c .before .args .number) 5 (c .match .rest .0 .0 .0 .1), cases)
+returns-5 c =
+    let number = c .before .args .number in
+    let rest = c .match .rest in
+    search (ne-eqb number 6 (rest .1), ne-eqb number 8 (rest .0 .1), ne-eqb number 7 (rest .0 .0 .1), ne-eqb number 5 (rest .0 .0 .0 .1), cases)
 
 pub is-bad-argument-spec : {M : Type 1} → statement M
 is-bad-argument-spec = tie.close (tie.spec returns returns-2 returns-3 returns-4 returns-5)

@@ -27,7 +27,8 @@ loop-again c =
     let bytes = now (c .before .before .before .before .before .before .before .before .before .before .before .before .before .args .bytes) in (
       omega arith,
       said _ _ _ _ (listed-one bytes (l .i) (c .before .before .before .before .before .before .before .before .before .loop-test .taken))
-          (chain _ _ _ _ (l .inv .1) (chain _ _ _ _ (c .before .before .before .before .before .before .before .put .ensures) (c .before .before .put-hex .ensures))),
+          (chain _ _ _ _ (l .inv .1)
+          (chain _ _ _ _ (c .before .before .before .before .before .before .before .put .ensures) (c .before .before .put-hex .ensures))),
     )
 
 same-length : tie.Need-same-length Inv-loop μ-loop

@@ -23,8 +23,11 @@ loop-holds c = (search needs, none _ _)
 loop-again : tie.Need-loop-again Inv-loop μ-loop
 loop-again c =
     let l = c .before .before .before .before .before .before .loop in
-    let word = now (c .before .before .before .before .before .before .before .before .before .args .word) in
-    (omega arith, said _ _ _ _ (word-one word (l .i) (c .before .before .before .before .before .loop-test .taken)) (chain _ _ _ _ (l .inv .1) (c .before .before .put .ensures)))
+    let word = now (c .before .before .before .before .before .before .before .before .before .args .word) in (
+      omega arith,
+      said _ _ _ _ (word-one word (l .i) (c .before .before .before .before .before .loop-test .taken))
+          (chain _ _ _ _ (l .inv .1) (c .before .before .put .ensures)),
+    )
 
 same-length : tie.Need-same-length Inv-loop μ-loop
 same-length c = same-room _ _ _ (c .before .loop .inv .1)

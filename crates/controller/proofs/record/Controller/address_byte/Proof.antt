@@ -11,7 +11,9 @@ use Rattle.controller.proofs.record.Controller.address_byte.Tie as tie
 
 returns : tie.Need-returns
 unfolding addressByte
-returns c = c .addressed .ensures ∙ rw (c .before .match-byte .ensures) (search (at-turn listen (c .before .before .before .before .args .self .turn) (c .before .before .before .match .keys1), cases))
+returns c =
+    let arm = c .before .before .before in
+    c .addressed .ensures ∙ rw (c .before .match-byte .ensures) (search (at-turn listen (arm .before .args .self .turn) (arm .match .keys1), cases))
 
 returns-2 : tie.Need-returns-2
 unfolding addressByte

@@ -11,7 +11,9 @@ use Rattle.controller.proofs.record.Controller.address_lost.Tie as tie
 
 returns : tie.Need-returns
 unfolding addressLost
-returns c = c .outbid .ensures ∙ rw (c .before .match-byte .ensures) (search (at-turn address (c .before .before .before .before .before .before .args .self .turn) (c .before .before .before .before .before .match .keys1), cases))
+returns c =
+    let arm = c .before .before .before .before .before in
+    c .outbid .ensures ∙ rw (c .before .match-byte .ensures) (search (at-turn address (arm .before .args .self .turn) (arm .match .keys1), cases))
 
 returns-2 : tie.Need-returns-2
 unfolding addressLost

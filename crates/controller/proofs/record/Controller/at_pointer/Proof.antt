@@ -32,7 +32,18 @@ returns-6 c = search (key-is 6 (c .before .args .self .pointer) (c .match .keys6
 
 returns-7 : tie.Need-returns-7
 unfolding atPointer
-returns-7 c = search (ne-eqb (c .before .args .self .pointer) 6 (c .match .rest .1), ne-eqb (c .before .args .self .pointer) 4 (c .match .rest .0 .1), ne-eqb (c .before .args .self .pointer) 3 (c .match .rest .0 .0 .1), ne-eqb (c .before .args .self .pointer) 2 (c .match .rest .0 .0 .0 .1), ne-eqb (c .before .args .self .pointer) 1 (c .match .rest .0 .0 .0 .0 .1), ne-eqb (c .before .args .self .pointer) 0 (c .match .rest .0 .0 .0 .0 .0 .1), cases)
+returns-7 c =
+    let pointer = c .before .args .self .pointer in
+    let rest = c .match .rest in
+    search (
+      ne-eqb pointer 6 (rest .1),
+      ne-eqb pointer 4 (rest .0 .1),
+      ne-eqb pointer 3 (rest .0 .0 .1),
+      ne-eqb pointer 2 (rest .0 .0 .0 .1),
+      ne-eqb pointer 1 (rest .0 .0 .0 .0 .1),
+      ne-eqb pointer 0 (rest .0 .0 .0 .0 .0 .1),
+      cases,
+    )
 
 pub at-pointer-spec : {M : Type 1} → statement M
 at-pointer-spec =

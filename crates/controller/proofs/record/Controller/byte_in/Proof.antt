@@ -13,10 +13,14 @@ use Rattle.controller.proofs.record.Controller.byte_in.Statement.{state
 use Rattle.controller.proofs.record.Controller.byte_in.Tie as tie
 
 data-in-requires : tie.Need-data-in-requires
-data-in-requires c κs = moving (c .before .before .args .self) (c .before .before .pre) (at-turn receive (c .before .before .args .self .turn) (c .before .match .keys1) true dataTurns refl)
+data-in-requires c κs =
+    let start = c .before .before in
+    moving (start .args .self) (start .pre) (at-turn receive (start .args .self .turn) (c .before .match .keys1) true dataTurns refl)
 
 slave-in-requires : tie.Need-slave-in-requires
-slave-in-requires c κs = moving (c .before .before .before .args .self) (c .before .before .before .pre) (at-turn slaveReceive (c .before .before .before .args .self .turn) (c .before .before .match .keys2) true dataTurns refl)
+slave-in-requires c κs =
+    let start = c .before .before .before in
+    moving (start .args .self) (start .pre) (at-turn slaveReceive (start .args .self .turn) (c .before .before .match .keys2) true dataTurns refl)
 
 returns : tie.Need-returns
 unfolding byteIn

@@ -12,17 +12,26 @@ use Rattle.controller.proofs.record.Controller.byte_out.Statement.{stat
 use Rattle.controller.proofs.record.Controller.byte_out.Tie as tie
 
 data-out-requires : tie.Need-data-out-requires
-data-out-requires c κs = moving (c .before .before .args .self) (c .before .before .pre) (at-turn send (c .before .before .args .self .turn) (c .before .match .keys2) true dataTurns refl)
+data-out-requires c κs =
+    let start = c .before .before in
+    moving (start .args .self) (start .pre) (at-turn send (start .args .self .turn) (c .before .match .keys2) true dataTurns refl)
 
 data-out-requires-2 : tie.Need-data-out-requires-2
-data-out-requires-2 c κs = moving (c .before .before .before .args .self) (c .before .before .before .pre) (at-turn slaveSend (c .before .before .before .args .self .turn) (c .before .before .match .keys3) true dataTurns refl)
+data-out-requires-2 c κs =
+    let start = c .before .before .before in
+    moving (start .args .self) (start .pre) (at-turn slaveSend (start .args .self .turn) (c .before .before .match .keys3) true dataTurns refl)
 
 data-out-requires-3 : tie.Need-data-out-requires-3
-data-out-requires-3 c κs = moving (c .before .before .before .args .self) (c .before .before .before .pre) (at-turn slaveSend (c .before .before .before .args .self .turn) (c .before .before .match .keys3) true dataTurns refl)
+data-out-requires-3 c κs =
+    let start = c .before .before .before in
+    moving (start .args .self) (start .pre) (at-turn slaveSend (start .args .self .turn) (c .before .before .match .keys3) true dataTurns refl)
 
 returns : tie.Need-returns
 unfolding byteOut
-returns c = c .give .ensures ∙ rw (c .before .address-status .ensures, c .before .before .direction .ensures) (search (at-turn address (c .before .before .before .before .before .before .args .self .turn) (c .before .before .before .before .before .match .keys1), cases))
+returns c =
+    let arm = c .before .before .before .before .before in
+    c .give .ensures ∙ rw (c .before .address-status .ensures, c .before .before .direction .ensures)
+    (search (at-turn address (arm .before .args .self .turn) (arm .match .keys1), cases))
 
 returns-2 : tie.Need-returns-2
 unfolding byteOut

@@ -14,11 +14,15 @@ returns c = search (at-turns (off ∷ host ∷ []) (c .before .before .args .sel
 
 returns-2 : tie.Need-returns-2
 unfolding clockHeld
-returns-2 c = search (at-turns (except (off ∷ host ∷ [])) (c .before .before .before .before .args .self .turn) (c .before .before .before .match .keys2), cases)
+returns-2 c =
+    let arm = c .before .before .before in
+    search (at-turns (except (off ∷ host ∷ [])) (arm .before .args .self .turn) (arm .match .keys2), cases)
 
 returns-3 : tie.Need-returns-3
 unfolding clockHeld
-returns-3 c = search (at-turns (except (off ∷ host ∷ [])) (c .before .before .before .before .args .self .turn) (c .before .before .before .match .keys2), cases)
+returns-3 c =
+    let arm = c .before .before .before in
+    search (at-turns (except (off ∷ host ∷ [])) (arm .before .args .self .turn) (arm .match .keys2), cases)
 
 pub clock-held-spec : {M : Type 1} → statement M
 clock-held-spec =

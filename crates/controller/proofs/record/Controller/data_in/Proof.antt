@@ -13,15 +13,23 @@ element-write-self c = omega (arith, c .cursor .ensures, cursor-below (c .before
 
 returns : tie.Need-returns
 unfolding dataIn received
-returns c = c .give .ensures ∙ rw (c .before .before .before .cursor .ensures) (sym (if-true _ _ _ (sym (c .before .before .before .before .before .is-last .ensures) ∙ c .before .before .if1 .taken) ∙ if-true _ _ _ (sym (c .before .before .before .before .acknowledges-last .ensures) ∙ c .before .if2 .taken)))
+returns c =
+    let last = sym (c .before .before .before .before .before .is-last .ensures) ∙ c .before .before .if1 .taken in
+    let acknowledged = sym (c .before .before .before .before .acknowledges-last .ensures) ∙ c .before .if2 .taken in
+    c .give .ensures ∙ rw (c .before .before .before .cursor .ensures) (sym (if-true _ _ _ last ∙ if-true _ _ _ acknowledged))
 
 returns-2 : tie.Need-returns-2
 unfolding dataIn received
-returns-2 c = c .give2 .ensures ∙ rw (c .before .before .before .cursor .ensures) (sym (if-true _ _ _ (sym (c .before .before .before .before .before .is-last .ensures) ∙ c .before .before .if1 .taken) ∙ if-false _ _ _ (sym (c .before .before .before .before .acknowledges-last .ensures) ∙ c .before .if2 .left)))
+returns-2 c =
+    let last = sym (c .before .before .before .before .before .is-last .ensures) ∙ c .before .before .if1 .taken in
+    let refused = sym (c .before .before .before .before .acknowledges-last .ensures) ∙ c .before .if2 .left in
+    c .give2 .ensures ∙ rw (c .before .before .before .cursor .ensures) (sym (if-true _ _ _ last ∙ if-false _ _ _ refused))
 
 returns-3 : tie.Need-returns-3
 unfolding dataIn received
-returns-3 c = c .accept .ensures ∙ rw (c .before .before .cursor .ensures) (sym (if-false _ _ _ (sym (c .before .before .before .before .is-last .ensures) ∙ c .before .if1 .left)))
+returns-3 c =
+    let amid = sym (c .before .before .before .before .is-last .ensures) ∙ c .before .if1 .left in
+    c .accept .ensures ∙ rw (c .before .before .cursor .ensures) (sym (if-false _ _ _ amid))
 
 pub data-in-spec : {M : Type 1} → statement M
 data-in-spec =

@@ -17,11 +17,15 @@ returns c = c .give .ensures ∙ rw (c .before .before .before .before .before .
 
 returns-2 : tie.Need-returns-2
 unfolding dataOut
-returns-2 c = c .give2 .ensures ∙ rw (c .before .before .before .before .before .before .cursor .ensures) (search (sym (c .before .before .before .before .is-last .ensures) ∙ c .before .if2 .taken, cases))
+returns-2 c =
+    let called = c .before .before .before .before in
+    c .give2 .ensures ∙ rw (called .before .before .cursor .ensures) (search (sym (called .is-last .ensures) ∙ c .before .if2 .taken, cases))
 
 returns-3 : tie.Need-returns-3
 unfolding dataOut
-returns-3 c = c .accept .ensures ∙ rw (c .before .before .before .before .before .before .cursor .ensures) (search (sym (c .before .before .before .before .is-last .ensures) ∙ c .before .if2 .left, cases))
+returns-3 c =
+    let called = c .before .before .before .before in
+    c .accept .ensures ∙ rw (called .before .before .cursor .ensures) (search (sym (called .is-last .ensures) ∙ c .before .if2 .left, cases))
 
 pub data-out-spec : {M : Type 1} → statement M
 data-out-spec =

@@ -12,11 +12,15 @@ returns c = c .refuse .ensures ∙ rw (c .before .enum-told .given .1)
 
 returns-2 : tie.Need-returns-2
 unfolding enabled
-returns-2 c = c .refuse2 .ensures ∙ rw (c .before .before .before .before .response .given .1) (search (sym (c .before .before .bad-count .ensures) ∙ c .before .if1 .taken, cases))
+returns-2 c =
+    c .refuse2 .ensures ∙ rw (c .before .before .before .before .response .given .1)
+    (search (sym (c .before .before .bad-count .ensures) ∙ c .before .if1 .taken, cases))
 
 returns-3 : tie.Need-returns-3
 unfolding enabled
-returns-3 c = c .controlled .ensures ∙ rw (c .before .before .before .before .response .given .1) (search (sym (c .before .before .bad-count .ensures) ∙ c .before .if1 .left, cases))
+returns-3 c =
+    c .controlled .ensures ∙ rw (c .before .before .before .before .response .given .1)
+    (search (sym (c .before .before .bad-count .ensures) ∙ c .before .if1 .left, cases))
 
 pub enabled-spec : {M : Type 1} → statement M
 enabled-spec =

@@ -20,18 +20,30 @@ returns-3 c = search (sym (c .before .before .is-bad-argument .ensures) ∙ c .b
 
 returns-4 : tie.Need-returns-4
 unfolding eventOf
-returns-4 c = c .accept .ensures ∙ rw (c .before .reset .ensures) (search (sym (c .before .before .before .before .is-bad-argument .ensures) ∙ c .before .before .before .if3 .left, cases))
+returns-4 c =
+    c .accept .ensures ∙ rw (c .before .reset .ensures)
+    (search (sym (c .before .before .before .before .is-bad-argument .ensures) ∙ c .before .before .before .if3 .left, cases))
 
 event-sound-requires : tie.Need-event-sound-requires
 event-sound-requires c κs = sym (c .before .is-sound .ensures) ∙ c .if5 .taken
 
 returns-5 : tie.Need-returns-5
 unfolding eventOf
-returns-5 c = search (sym (c .before .before .is-sound .ensures) ∙ c .before .if5 .taken, sym (c .before .before .before .before .before .is-bad-argument .ensures) ∙ c .before .before .before .before .if3 .left, cases)
+returns-5 c =
+    search (
+      sym (c .before .before .is-sound .ensures) ∙ c .before .if5 .taken,
+      sym (c .before .before .before .before .before .is-bad-argument .ensures) ∙ c .before .before .before .before .if3 .left,
+      cases,
+    )
 
 returns-6 : tie.Need-returns-6
 unfolding eventOf
-returns-6 c = search (sym (c .before .before .is-sound .ensures) ∙ c .before .if5 .left, sym (c .before .before .before .before .before .is-bad-argument .ensures) ∙ c .before .before .before .before .if3 .left, cases)
+returns-6 c =
+    search (
+      sym (c .before .before .is-sound .ensures) ∙ c .before .if5 .left,
+      sym (c .before .before .before .before .before .is-bad-argument .ensures) ∙ c .before .before .before .before .if3 .left,
+      cases,
+    )
 
 pub event-spec : {M : Type 1} → statement M
 event-spec =

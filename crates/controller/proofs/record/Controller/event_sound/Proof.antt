@@ -58,7 +58,24 @@ returns-12 c = c .clock-held .ensures ∙ rw (c .before .match .keys12)
 
 returns-13 : tie.Need-returns-13
 unfolding eventSound
-returns-13 c = search (ne-eqb (c .before .before .args .number) 12 (c .before .match .rest .1), ne-eqb (c .before .before .args .number) 11 (c .before .match .rest .0 .1), ne-eqb (c .before .before .args .number) 10 (c .before .match .rest .0 .0 .1), ne-eqb (c .before .before .args .number) 9 (c .before .match .rest .0 .0 .0 .1), ne-eqb (c .before .before .args .number) 8 (c .before .match .rest .0 .0 .0 .0 .1), ne-eqb (c .before .before .args .number) 7 (c .before .match .rest .0 .0 .0 .0 .0 .1), ne-eqb (c .before .before .args .number) 6 (c .before .match .rest .0 .0 .0 .0 .0 .0 .1), ne-eqb (c .before .before .args .number) 5 (c .before .match .rest .0 .0 .0 .0 .0 .0 .0 .1), ne-eqb (c .before .before .args .number) 4 (c .before .match .rest .0 .0 .0 .0 .0 .0 .0 .0 .1), ne-eqb (c .before .before .args .number) 3 (c .before .match .rest .0 .0 .0 .0 .0 .0 .0 .0 .0 .1), ne-eqb (c .before .before .args .number) 2 (c .before .match .rest .0 .0 .0 .0 .0 .0 .0 .0 .0 .0 .1), ne-eqb (c .before .before .args .number) 1 (c .before .match .rest .0 .0 .0 .0 .0 .0 .0 .0 .0 .0 .0 .1), cases)
+returns-13 c =
+    let number = c .before .before .args .number in
+    let rest = c .before .match .rest in
+    search (
+      ne-eqb number 12 (rest .1),
+      ne-eqb number 11 (rest .0 .1),
+      ne-eqb number 10 (rest .0 .0 .1),
+      ne-eqb number 9 (rest .0 .0 .0 .1),
+      ne-eqb number 8 (rest .0 .0 .0 .0 .1),
+      ne-eqb number 7 (rest .0 .0 .0 .0 .0 .1),
+      ne-eqb number 6 (rest .0 .0 .0 .0 .0 .0 .1),
+      ne-eqb number 5 (rest .0 .0 .0 .0 .0 .0 .0 .1),
+      ne-eqb number 4 (rest .0 .0 .0 .0 .0 .0 .0 .0 .1),
+      ne-eqb number 3 (rest .0 .0 .0 .0 .0 .0 .0 .0 .0 .1),
+      ne-eqb number 2 (rest .0 .0 .0 .0 .0 .0 .0 .0 .0 .0 .1),
+      ne-eqb number 1 (rest .0 .0 .0 .0 .0 .0 .0 .0 .0 .0 .0 .1),
+      cases,
+    )
 
 pub event-sound-spec : {M : Type 1} → statement M
 event-sound-spec =

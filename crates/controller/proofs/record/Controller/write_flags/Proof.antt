@@ -11,15 +11,22 @@ use Rattle.controller.proofs.record.Controller.write_flags.Tie as tie
 
 returns : tie.Need-returns
 unfolding writeFlags
-returns c = c .refuse .ensures ∙ rw (← (c .before .before .status .ensures)) (search (keys-in faults (c .before .before .status .result) (c .before .match .keys1), cases))
+returns c =
+    c .refuse .ensures ∙ rw (← (c .before .before .status .ensures))
+    (search (keys-in faults (c .before .before .status .result) (c .before .match .keys1), cases))
 
 returns-2 : tie.Need-returns-2
 unfolding writeFlags
-returns-2 c = c .enabled .ensures ∙ rw (c .before .respond .ensures, ← (c .before .before .before .before .status .ensures)) (search (none-of faults (c .before .before .before .before .status .result) (c .before .before .before .match .rest .1), cases))
+returns-2 c =
+    let called = c .before .before .before .before in
+    c .enabled .ensures ∙ rw (c .before .respond .ensures, ← (called .status .ensures))
+    (search (none-of faults (called .status .result) (c .before .before .before .match .rest .1), cases))
 
 returns-3 : tie.Need-returns-3
 unfolding writeFlags
-returns-3 c = c .controlled .ensures ∙ rw (← (c .before .before .before .status .ensures)) (search (none-of faults (c .before .before .before .status .result) (c .before .before .match .rest .1), cases))
+returns-3 c =
+    let called = c .before .before .before in
+    c .controlled .ensures ∙ rw (← (called .status .ensures)) (search (none-of faults (called .status .result) (c .before .before .match .rest .1), cases))
 
 pub write-flags-spec : {M : Type 1} → statement M
 write-flags-spec =

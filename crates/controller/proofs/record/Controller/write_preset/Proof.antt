@@ -8,7 +8,9 @@ use Rattle.controller.proofs.record.Controller.write_preset.Tie as tie
 
 returns : tie.Need-returns
 unfolding writePreset
-returns c = c .accept .ensures ∙ rw (c .before .reset .ensures) (search (sym (c .before .before .before .completes-reset .ensures) ∙ c .before .before .if1 .taken, cases))
+returns c =
+    c .accept .ensures ∙ rw (c .before .reset .ensures)
+    (search (sym (c .before .before .before .completes-reset .ensures) ∙ c .before .before .if1 .taken, cases))
 
 returns-2 : tie.Need-returns-2
 unfolding writePreset

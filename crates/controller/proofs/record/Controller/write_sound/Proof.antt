@@ -15,26 +15,52 @@ returns c = search (sym (c .before .before .is-indirect-at .ensures) ∙ c .befo
 
 returns-2 : tie.Need-returns-2
 unfolding writeSound
-returns-2 c = search (sym (c .before .before .bars-write .ensures) ∙ c .before .if2 .taken, sym (c .before .before .before .before .is-indirect-at .ensures) ∙ c .before .before .before .if1 .left, cases)
+returns-2 c =
+    search (
+      sym (c .before .before .bars-write .ensures) ∙ c .before .if2 .taken,
+      sym (c .before .before .before .before .is-indirect-at .ensures) ∙ c .before .before .before .if1 .left,
+      cases,
+    )
 
 write-data-requires : tie.Need-write-data-requires
 write-data-requires c κs = parts (c .before .before .before .before .before .args .self) (c .before .before .before .before .before .pre) .hand
 
 returns-3 : tie.Need-returns-3
 unfolding writeSound
-returns-3 c = search (key-is 0 (c .before .before .before .before .before .before .args .register) (c .before .match .keys1), sym (c .before .before .before .bars-write .ensures) ∙ c .before .before .if2 .left, sym (c .before .before .before .before .before .is-indirect-at .ensures) ∙ c .before .before .before .before .if1 .left, cases)
+returns-3 c =
+    let arm = c .before in
+    let register = arm .before .before .before .before .before .args .register in
+    let allowed = sym (arm .before .before .bars-write .ensures) ∙ arm .before .if2 .left in
+    let direct = sym (arm .before .before .before .before .is-indirect-at .ensures) ∙ arm .before .before .before .if1 .left in
+    search (key-is 0 register (arm .match .keys1), allowed, direct, cases)
 
 returns-4 : tie.Need-returns-4
 unfolding writeSound
-returns-4 c = search (key-is 1 (c .before .before .before .before .before .before .args .register) (c .before .match .keys2), sym (c .before .before .before .bars-write .ensures) ∙ c .before .before .if2 .left, sym (c .before .before .before .before .before .is-indirect-at .ensures) ∙ c .before .before .before .before .if1 .left, cases)
+returns-4 c =
+    let arm = c .before in
+    let register = arm .before .before .before .before .before .args .register in
+    let allowed = sym (arm .before .before .bars-write .ensures) ∙ arm .before .if2 .left in
+    let direct = sym (arm .before .before .before .before .is-indirect-at .ensures) ∙ arm .before .before .before .if1 .left in
+    search (key-is 1 register (arm .match .keys2), allowed, direct, cases)
 
 returns-5 : tie.Need-returns-5
 unfolding writeSound
-returns-5 c = search (key-is 2 (c .before .before .before .before .before .before .args .register) (c .before .match .keys3), sym (c .before .before .before .bars-write .ensures) ∙ c .before .before .if2 .left, sym (c .before .before .before .before .before .is-indirect-at .ensures) ∙ c .before .before .before .before .if1 .left, cases)
+returns-5 c =
+    let arm = c .before in
+    let register = arm .before .before .before .before .before .args .register in
+    let allowed = sym (arm .before .before .bars-write .ensures) ∙ arm .before .if2 .left in
+    let direct = sym (arm .before .before .before .before .is-indirect-at .ensures) ∙ arm .before .before .before .if1 .left in
+    search (key-is 2 register (arm .match .keys3), allowed, direct, cases)
 
 returns-6 : tie.Need-returns-6
 unfolding writeSound
-returns-6 c = search (ne-eqb (c .before .before .before .before .before .before .args .register) 2 (c .before .match .rest .1), ne-eqb (c .before .before .before .before .before .before .args .register) 1 (c .before .match .rest .0 .1), ne-eqb (c .before .before .before .before .before .before .args .register) 0 (c .before .match .rest .0 .0 .1), sym (c .before .before .before .bars-write .ensures) ∙ c .before .before .if2 .left, sym (c .before .before .before .before .before .is-indirect-at .ensures) ∙ c .before .before .before .before .if1 .left, cases)
+returns-6 c =
+    let arm = c .before in
+    let register = arm .before .before .before .before .before .args .register in
+    let allowed = sym (arm .before .before .bars-write .ensures) ∙ arm .before .if2 .left in
+    let direct = sym (arm .before .before .before .before .is-indirect-at .ensures) ∙ arm .before .before .before .if1 .left in
+    let rest = arm .match .rest in
+    search (ne-eqb register 2 (rest .1), ne-eqb register 1 (rest .0 .1), ne-eqb register 0 (rest .0 .0 .1), allowed, direct, cases)
 
 pub write-sound-spec : {M : Type 1} → statement M
 write-sound-spec =

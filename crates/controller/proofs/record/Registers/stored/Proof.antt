@@ -28,7 +28,17 @@ returns-5 c = search (key-is 4 (c .before .args .pointer) (c .match .keys5), cas
 
 returns-6 : tie.Need-returns-6
 unfolding stored
-returns-6 c = search (ne-eqb (c .before .args .pointer) 4 (c .match .rest .1), ne-eqb (c .before .args .pointer) 3 (c .match .rest .0 .1), ne-eqb (c .before .args .pointer) 2 (c .match .rest .0 .0 .1), ne-eqb (c .before .args .pointer) 1 (c .match .rest .0 .0 .0 .1), ne-eqb (c .before .args .pointer) 0 (c .match .rest .0 .0 .0 .0 .1), cases)
+returns-6 c =
+    let pointer = c .before .args .pointer in
+    let rest = c .match .rest in
+    search (
+      ne-eqb pointer 4 (rest .1),
+      ne-eqb pointer 3 (rest .0 .1),
+      ne-eqb pointer 2 (rest .0 .0 .1),
+      ne-eqb pointer 1 (rest .0 .0 .0 .1),
+      ne-eqb pointer 0 (rest .0 .0 .0 .0 .1),
+      cases,
+    )
 
 pub stored-spec : {M : Type 1} → statement M
 stored-spec = tie.close (tie.spec returns returns-2 returns-3 returns-4 returns-5 returns-6)
