@@ -20,7 +20,7 @@
 #define PERLOVASTA_READ 1u    /* kind of a job: fill n bytes of destination */
 #define PERLOVASTA_PLACES 68u /* the most bytes that one job moves */
 #define PERLOVASTA_OUT 69u    /* least length of out: address byte and data */
-#define PERLOVASTA_REPORT 11u /* least length of report */
+#define PERLOVASTA_REPORT 12u /* least length of report */
 #define PERLOVASTA_GROUP 3u   /* bytes of a trace for each access or event */
 #define PERLOVASTA_ENTRY 8u   /* bytes of a log for each access or event */
 
@@ -40,14 +40,15 @@ extern "C" {
  * out          at least 69 bytes; begins with the bytes sent, its rest stays
  * script       pairs (event, argument), taken while the job lasts; the events
  *              are listed at the end
- * report       at least 11 bytes; its first 11 are written, its rest stays:
+ * report       at least 12 bytes; its first 12 are written, its rest stays:
  *                0       the answer, see below
  *                1       for answer 28 the refusal's number, else 0
  *                2       the count: n for 0, for 24 the data bytes moved with
  *                        the one not acknowledged, else 0
- *                3..10   pairs taken, low byte first
+ *                3       how many bytes were sent, 0..69: out begins with them
+ *                4..11   pairs taken, low byte first
  *
- * Returns true exactly if report_len is at least 11. Else it returns false,
+ * Returns true exactly if report_len is at least 12. Else it returns false,
  * and nothing at all is written.
  *
  * Answers:

@@ -27,7 +27,7 @@ pub fn job(input: &Input, destination: &mut [u8], out: &mut [u8], report: &mut [
     *report = match kind(input.kind) {
         Some(kind) => written(run(input, kind, destination, out)),
         // Of another kind: 21, and nothing is done.
-        None => [21, 0, 0, 0, 0, 0, 0, 0, 0, 0, 0],
+        None => [21, 0, 0, 0, 0, 0, 0, 0, 0, 0, 0, 0],
     };
     true
 }
@@ -58,13 +58,14 @@ pub fn enabled() -> Controller {
     controller
 }
 
-/// The report's eleven bytes.
+/// The report's twelve bytes.
 fn written(report: Report) -> [u8; REPORT_LEN] {
     let mut bytes = [0; REPORT_LEN];
     bytes[0] = report.answer.number();
     bytes[1] = report.answer.beside();
     bytes[2] = report.count;
-    bytes[3..].copy_from_slice(&(report.events as u64).to_le_bytes());
+    bytes[3] = u8::try_from(report.sent).expect("at most 69");
+    bytes[4..].copy_from_slice(&(report.events as u64).to_le_bytes());
     bytes
 }
 

@@ -105,6 +105,7 @@ fn job_sections(tally: &Tally) -> Vec<Section> {
         Cell::new("over 255 pairs", tally.long[0]),
         Cell::new("over 65535 pairs", tally.long[1]),
     ];
+    let sent = vec![Cell::all("number of bytes", &tally.sent)];
     let counts = [0, 69].map(|n| Cell::new(format!("n {n}"), tally.count[n]));
     let names = [
         "kind",
@@ -125,6 +126,7 @@ fn job_sections(tally: &Tally) -> Vec<Section> {
             .noting("refusals 3 to 7 and 9 are of accesses, not of events"),
         Section::new("job done", done),
         Section::new("job took", long),
+        Section::new("job sent", sent),
         Section::new("21 for one flaw", flaws.chain(counts).collect()),
         Section::new("no report for", reports),
     ]

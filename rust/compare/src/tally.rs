@@ -4,6 +4,7 @@ mod job;
 mod trace;
 
 use crate::trace_case::Flaw;
+use perlovasta::OUT_LEN;
 
 /// Turns have numbers below this.
 pub const TURNS: usize = 32;
@@ -43,6 +44,8 @@ pub struct Tally {
     pub answer: [u64; 30],
     /// The number beside answer 28.
     pub beside: [u64; 11],
+    /// Jobs by the number of bytes sent, from 0 on.
+    pub sent: [u64; 1 + OUT_LEN],
     /// Jobs done, by kind and n.
     pub done: [[u64; 256]; 2],
     /// Jobs whose n is the one thing wrong, by n.
@@ -72,6 +75,7 @@ impl Tally {
             long: [0; 2],
             answer: [0; 30],
             beside: [0; 11],
+            sent: [0; 1 + OUT_LEN],
             done: [[0; 256]; 2],
             count: [0; 256],
             flaw: [0; 8],

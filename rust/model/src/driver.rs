@@ -125,6 +125,8 @@ pub struct Report {
     pub answer: Answer,
     /// n for 0, the moved count found at 30h for 24, else 0.
     pub count: u8,
+    /// How many bytes were sent: the out record begins with so many.
+    pub sent: usize,
     /// The number of pairs taken; a refused pair isn't counted.
     pub events: usize,
 }
@@ -170,6 +172,7 @@ pub fn run_job(
     Report {
         answer,
         count,
+        sent: run.sent,
         events,
     }
 }
@@ -327,6 +330,7 @@ impl Report {
         Report {
             answer,
             count: 0,
+            sent: 0,
             events: 0,
         }
     }

@@ -231,8 +231,16 @@ impl Ran {
             answer,
             count,
             events,
+            ..
         } = self.report;
         (answer.number(), answer.beside(), count, events)
+    }
+
+    /// The bytes sent as expected, the rest of the out record as lent.
+    #[track_caller]
+    fn sent(&self, bytes: &[u8]) {
+        assert_eq!(self.report.sent, bytes.len());
+        begins(&self.out, bytes);
     }
 }
 
@@ -272,7 +280,7 @@ fn printed_example() {
     let script = [1, 0, 6, 0, 6, 0, 6, 0, 4, 0];
     let ran = run(&mut c, Kind::Write, 2, &[0x11, 0x22], &script);
     assert_eq!(ran.numbers(), (0, 0, 2, 5));
-    begins(&ran.out, &[0xA0, 0x11, 0x22]);
+    ran.sent(&[0xA0, 0x11, 0x22]);
     begins(&ran.destination, &[]);
     assert_eq!(c.turn(), Turn::Free);
     assert_eq!(c.control(), ENSIO);
@@ -284,7 +292,7 @@ fn case_a_read_of_one() {
     let mut c = enabled();
     let ran = run_read(&mut c, 1, &[1, 0, 6, 0, 7, 0x5C, 4, 0]);
     assert_eq!(ran.numbers(), (0, 0, 1, 4));
-    begins(&ran.out, &[0xA1]);
+    ran.sent(&[0xA1]);
     begins(&ran.destination, &[0x5C]);
 }
 
@@ -293,12 +301,12 @@ fn case_b_address_nacked() {
     let mut c = enabled();
     let ran = run_read(&mut c, 1, &[1, 0, 6, 1, 4, 0]);
     assert_eq!(ran.numbers(), (23, 0, 0, 3));
-    begins(&ran.out, &[0xA1]);
+    ran.sent(&[0xA1]);
     begins(&ran.destination, &[]);
 
     let ran = run(&mut c, Kind::Write, 1, &[9], &[1, 0, 6, 1, 4, 0]);
     assert_eq!(ran.numbers(), (23, 0, 0, 3));
-    begins(&ran.out, &[0xA0]);
+    ran.sent(&[0xA0]);
 }
 
 #[test]
@@ -307,7 +315,7 @@ fn case_c_data_nacked() {
     let script = [1, 0, 6, 0, 6, 1, 4, 0];
     let ran = run(&mut c, Kind::Write, 2, &[0x11, 0x22], &script);
     assert_eq!(ran.numbers(), (24, 0, 1, 4));
-    begins(&ran.out, &[0xA0, 0x11]);
+    ran.sent(&[0xA0, 0x11]);
     assert_eq!(c.pointer(), 0);
     assert_eq!(c.turn(), Turn::Free);
 
@@ -315,7 +323,7 @@ fn case_c_data_nacked() {
     let script = [1, 0, 6, 0, 6, 0, 6, 1, 4, 0];
     let ran = run(&mut c, Kind::Write, 2, &[0x11, 0x22], &script);
     assert_eq!(ran.numbers(), (24, 0, 2, 5));
-    begins(&ran.out, &[0xA0, 0x11, 0x22]);
+    ran.sent(&[0xA0, 0x11, 0x22]);
 
     // Only after own STOP.
     let script = [1, 0, 6, 0, 6, 1];
@@ -334,15 +342,14 @@ fn case_d_n_68() {
     let mut c = enabled();
     let ran = run(&mut c, Kind::Write, 68, &data, &script);
     assert_eq!(ran.numbers(), (0, 0, 68, 71));
-    assert_eq!(ran.out[0], 0xA0);
-    assert_eq!(ran.out[1..], data);
+    ran.sent(&[&[0xA0], &data[..]].concat());
 
     let mut script = vec![1, 0, 6, 0];
     script.extend(data.iter().flat_map(|&b| [7, b]));
     script.extend([4, 0]);
     let ran = run_read(&mut c, 68, &script);
     assert_eq!(ran.numbers(), (0, 0, 68, 71));
-    begins(&ran.out, &[0xA1]);
+    ran.sent(&[0xA1]);
     assert_eq!(ran.destination[..], data);
 }
 
@@ -355,7 +362,7 @@ fn cases_e_and_f_n_0_and_69() {
         assert_eq!(ran.numbers(), (21, 0, 0, 0));
         let ran = run_read(&mut c, n, &[1, 0]);
         assert_eq!(ran.numbers(), (21, 0, 0, 0));
-        begins(&ran.out, &[]);
+        ran.sent(&[]);
         begins(&ran.destination, &[]);
     }
     assert_eq!(c, before);
@@ -1183,7 +1190,7 @@ fn malformed_jobs() {
         let mut destination = vec![UNTOUCHED; destination];
         let mut out = vec![UNTOUCHED; out];
         let report = run_job(&mut c, job, &mut destination, &mut out, script);
-        assert_eq!((report.count, report.events), (0, 0));
+        assert_eq!((report.count, report.sent, report.events), (0, 0, 0));
         begins(&out, &[]);
         begins(&destination, &[]);
         if report.answer == Answer::Malformed {
@@ -1219,7 +1226,7 @@ fn not_ready() {
         let before = c.clone();
         let ran = run_read(&mut c, 1, &[14, 0]);
         assert_eq!(ran.numbers(), (22, 0, 0, 0));
-        begins(&ran.out, &[]);
+        ran.sent(&[]);
         begins(&ran.destination, &[]);
         // 21 comes before 22.
         assert_eq!(run_read(&mut c, 0, &[]).numbers(), (21, 0, 0, 0));
@@ -1254,7 +1261,7 @@ fn lost_jobs() {
     let mut c = enabled();
     let ran = run(&mut c, Kind::Write, 1, &[7], &[1, 0, 8, 0x9F, 4, 0]);
     assert_eq!(ran.numbers(), (25, 0, 0, 2));
-    begins(&ran.out, &[]);
+    ran.sent(&[]);
     assert_eq!(c.turn(), Turn::Busy);
     assert_eq!(c.control(), ENSIO);
 
@@ -1262,7 +1269,7 @@ fn lost_jobs() {
     let script = [1, 0, 6, 0, 6, 0, 9, 0, 4, 0];
     let ran = run(&mut c, Kind::Write, 2, &[7, 8], &script);
     assert_eq!(ran.numbers(), (25, 0, 0, 4));
-    begins(&ran.out, &[0xA0, 7]);
+    ran.sent(&[0xA0, 7]);
     assert_eq!(c.turn(), Turn::Busy);
 
     let mut c = enabled();
@@ -1446,7 +1453,7 @@ fn random_jobs_keep_the_rules_of_lent_bytes() {
         let sent = of(6).count();
         let mut wire = vec![0xA0 | (kind == Kind::Read) as u8];
         wire.extend(data);
-        begins(&ran.out, &wire[..sent]);
+        ran.sent(&wire[..sent]);
         let handed: Vec<u8> = match (answer, kind) {
             (0, Kind::Read) => of(7).map(|pair| pair[1]).collect(),
             _ => vec![],

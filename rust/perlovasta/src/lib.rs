@@ -23,7 +23,7 @@
 //! assert_eq!(report.answer, Answer::Done);
 //! assert_eq!((report.count, report.events), (8, 11));
 //! assert_eq!(badge, [0x04, 0xA2, 0x19, 0x6E, 0x35, 0x80, 0x00, 0x5C]);
-//! assert_eq!(out[0], 0xA1); // the address byte: 2 x 50h + 1, for a read
+//! assert_eq!(report.sent, [0xA1]); // the address byte: 2 x 50h + 1, for a read
 //! ```
 //!
 //! Where the reader does not acknowledge its address, the job says so, and the destination stays as
@@ -69,7 +69,7 @@ pub const PLACES: usize = 68;
 /// The least length of a job's out record: the address byte and the data.
 pub const OUT_LEN: usize = 1 + PLACES;
 /// The bytes of a job's report in [`sys::job`].
-pub const REPORT_LEN: usize = 11;
+pub const REPORT_LEN: usize = 12;
 /// The bytes of a trace for each access or event.
 pub const GROUP_LEN: usize = 3;
 /// The bytes of a log for each access or event.

@@ -12,12 +12,13 @@ impl Tally {
             return;
         }
         let report = &case.report;
-        let pairs = report[3..11].try_into().expect("eight bytes");
+        let pairs = report[4..12].try_into().expect("eight bytes");
         let pairs = u64::from_le_bytes(pairs);
         self.pairs += pairs;
         self.long[0] += u64::from(pairs > 0xFF);
         self.long[1] += u64::from(pairs > 0xFFFF);
         self.answer[usize::from(report[0])] += 1;
+        self.sent[usize::from(report[3])] += 1;
         match report[0] {
             0 => self.done[usize::from(case.kind)][usize::from(case.n)] += 1,
             28 => self.beside[usize::from(report[1])] += 1,
