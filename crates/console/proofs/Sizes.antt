@@ -5,7 +5,8 @@ use Prim.Native.Nat.{ℕ, zero, suc, _+_, _*_, _≤_, _/_, _%_}
 use native.Mathlib.Omega.{arith}
 use lib.Dec.{eqb, ltb}
 use lib.ListN.{length, length-append}
-use Rattle.console.specs.JobText.{answerWord, countWord, eventsWord, refusedWord, outWord, inWord, newline, number, beside, firstLine, bytesLine, jobText, reportText}
+use Rattle.console.specs.JobText.{answerWord, countWord, eventsWord, refusedWord, outWord, inWord}
+use Rattle.console.specs.JobText.{newline, number, beside, firstLine, bytesLine, jobText, reportText}
 use Rattle.text.specs.Text.{digit, hexOf, decimalOf, listed}
 use Rattle.controller.specs.declared.record.Controller.{Controller}
 use Rattle.driver.specs.Run.{Result, Report, jobOf}
@@ -32,7 +33,8 @@ listed-size (b ∷ bytes) = let e = listed-size bytes in omega (arith, e)
 beside-size : (answer refused : ℕ) → length (beside answer refused) ≤ 29
 unfolding beside
 beside-size answer refused =
-    split (λ (l : List ℕ). length l ≤ 29) (eqb answer 28) _ _ (λ _. both refusedWord (number refused) 9 20 (omega arith) (decimal-size 20 refused)) (λ _. omega arith)
+    let refusal = both refusedWord (number refused) 9 20 (omega arith) (decimal-size 20 refused) in
+    split (λ (l : List ℕ). length l ≤ 29) (eqb answer 28) _ _ (λ _. refusal) (λ _. omega arith)
 
 first-size : (r : Result) → length (firstLine r) ≤ 112
 unfolding firstLine

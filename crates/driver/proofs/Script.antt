@@ -10,7 +10,8 @@ use lib.ListN.{length, drop, getD, length-drop}
 use Rattle.answer.specs.Refusal.{refusalNumber, refusalOf, valueOf}
 use Rattle.answer.specs.declared.Answer.the-variants.{Accepted, Refused as Rejected}
 use Rattle.answer.specs.declared.Answer.{Answer}
-use Rattle.answer.specs.declared.Refusal.the-variants.{OutOfRange, BadArgument, OnTheWire, Locked, Unlisted, BadCount, BufferEnd, Unexpected, Inaccessible, Unsound}
+use Rattle.answer.specs.declared.Refusal.the-variants.{OutOfRange, BadArgument, OnTheWire, Locked, Unlisted}
+use Rattle.answer.specs.declared.Refusal.the-variants.{BadCount, BufferEnd, Unexpected, Inaccessible, Unsound}
 use Rattle.answer.specs.declared.Refusal.{Refusal}
 use Rattle.controller.specs.Event.{eventOf}
 use Rattle.controller.specs.Reply.{Outcome, outcomeOf}

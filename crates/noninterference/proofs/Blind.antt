@@ -21,7 +21,8 @@ use Rattle.control.specs.declared.turn.Turn.{Turn}
 use Rattle.control.specs.declared.writing.Response.the-variants.{Next, Unlisted}
 use Rattle.control.specs.declared.writing.Response.{Response}
 use Rattle.controller.specs.Access.{indirectAt, barsRead, barsWrite, readSound, readOf, writeSound, writeOf}
-use Rattle.controller.specs.Condition.{ownStart, otherStart, otherStop, ownStop, addressed, addressByte, outbid, addressLost, dataLost, illegalEdge, dataHeld, clockHeld, idle}
+use Rattle.controller.specs.Condition.{ownStart, otherStart, otherStop, ownStop, addressed, addressByte}
+use Rattle.controller.specs.Condition.{outbid, addressLost, dataLost, illegalEdge, dataHeld, clockHeld, idle}
 use Rattle.controller.specs.Event.{badArgument, eventSound, eventOf}
 use Rattle.controller.specs.I2ccon.{badCount, controlled, enabled, writeFlags, writeControl}
 use Rattle.controller.specs.Record.{place, sound, moveSound}

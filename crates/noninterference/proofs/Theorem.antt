@@ -218,7 +218,11 @@ list-same (i ∷ items) c c′ t =
 
 -- records that are equal item by item but for the places are twins
 alike-twins : (c c′ : Controller) → AlikeButForPlaces c c′ → Twin c c′
-alike-twins c c′ a = record { rest = simp (a .hand, a .moved, a .pointer, a .armed, a .registers, a .control, a .turn); places = a .bufferLength; places′ = a .bufferLength′ }
+alike-twins c c′ a = record {
+  rest = simp (a .hand, a .moved, a .pointer, a .armed, a .registers, a .control, a .turn);
+  places = a .bufferLength;
+  places′ = a .bufferLength′;
+}
 
 -- DEMAND 3.
 pub demand-3 : Demand3

@@ -52,7 +52,8 @@ sound-group c kind place value s =
     P : Outcome → Type 0
     P o = sound (o .next) ≡ true
 
-pub refused-group : (c : Controller) (kind place value : ℕ) (r : Reply) → outcomeOf r ≡ groupOf c kind place value → (refusalOf (r .answer) ≡ 0 → ⊥) → r .controller ≡ c
+pub refused-group : (c : Controller) (kind place value : ℕ) (r : Reply) → outcomeOf r ≡ groupOf c kind place value →
+    (refusalOf (r .answer) ≡ 0 → ⊥) → r .controller ≡ c
 unfolding outcomeOf
 refused-group c kind place value r e f = (subst (Stays c) (sym e) (stays-group c kind place value)) .record-kept f
 

@@ -31,7 +31,8 @@ use Rattle.notation.specs.Choice.{if_then_else_, among}
 use Rattle.runs.proofs.Accesses.{pointer-written, count-read}
 use Rattle.runs.proofs.DataMoves.{put-sound}
 use Rattle.runs.proofs.Invariant.{In, earlyTurns, write-no-read, count-below, limit, limit-low, below-count, Whole, Good, Stepped, going, good-sending}
-use Rattle.runs.proofs.Lines.{Line, dataWork, receiveWork, nackedWork, sentWork, dataNackedWork, loads, receives, counts-and-stops, pointsBack, finds-and-stops}
+use Rattle.runs.proofs.Lines.{Line, dataWork, receiveWork, nackedWork, sentWork, dataNackedWork}
+use Rattle.runs.proofs.Lines.{loads, receives, counts-and-stops, pointsBack, finds-and-stops}
 use Rattle.runs.proofs.Starts.{stops-good, sends-good, receives-good}
 use Rattle.runs.proofs.Step.{Step, hosted, refusing, hosting, idling, here, regood}
 use Rattle.service.proofs.Formed.{Formed}

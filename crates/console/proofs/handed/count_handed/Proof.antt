@@ -10,11 +10,18 @@ use Rattle.console.proofs.handed.count_handed.Tie as tie
 
 returns : tie.Need-returns
 unfolding handedCount
-returns c = search (ap (λ (n : ℕ). eqb n 0) (sym (c .before .before .before .before .number .ensures)) ∙ c .before .before .before .if1 .taken, ap (λ (n : ℕ). eqb n 1) (sym (c .before .before .bit .ensures)) ∙ c .before .if2 .taken, cases)
+returns c =
+    let s = c .before in
+    let done = ap (λ (n : ℕ). eqb n 0) (sym (s .before .before .before .number .ensures)) ∙ s .before .before .if1 .taken in
+    let read = ap (λ (n : ℕ). eqb n 1) (sym (s .before .bit .ensures)) ∙ s .if2 .taken in
+    search (done, read, cases)
 
 returns-2 : tie.Need-returns-2
 unfolding handedCount
-returns-2 c = search (ap (λ (n : ℕ). eqb n 0) (sym (c .before .before .before .number .ensures)) ∙ c .before .before .if1 .taken, ap (λ (n : ℕ). eqb n 1) (sym (c .before .bit .ensures)) ∙ c .if2 .left, cases)
+returns-2 c =
+    let done = ap (λ (n : ℕ). eqb n 0) (sym (c .before .before .before .number .ensures)) ∙ c .before .before .if1 .taken in
+    let written = ap (λ (n : ℕ). eqb n 1) (sym (c .before .bit .ensures)) ∙ c .if2 .left in
+    search (done, written, cases)
 
 returns-3 : tie.Need-returns-3
 unfolding handedCount

@@ -13,8 +13,11 @@ use Rattle.console.proofs.report.put_beside.Tie as tie
 returns : tie.Need-returns
 unfolding beside
 returns c =
-    let test = ap (λ (n : ℕ). eqb n 28) (sym (c .before .before .before .before .before .before .before .before .before .before .before .number .ensures)) ∙ c .before .before .before .before .before .before .before .before .before .before .if1 .taken in
-    said _ _ _ _ (sym (if-true _ _ _ test)) (chain _ _ _ _ (c .before .before .before .before .before .before .before .put-word .ensures) (said _ _ _ _ (ap (decimalOf 20) (c .before .before .before .beside .ensures)) (c .before .before .put-decimal .ensures)))
+    let word = c .before .before .before .before .before .before .before in
+    let s = word .before .before .before in
+    let test = ap (λ (n : ℕ). eqb n 28) (sym (s .before .number .ensures)) ∙ s .if1 .taken in
+    let refusal = said _ _ _ _ (ap (decimalOf 20) (c .before .before .before .beside .ensures)) (c .before .before .put-decimal .ensures) in
+    said _ _ _ _ (sym (if-true _ _ _ test)) (chain _ _ _ _ (word .put-word .ensures) refusal)
 
 returns-2 : tie.Need-returns-2
 unfolding beside

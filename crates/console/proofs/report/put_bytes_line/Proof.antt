@@ -8,7 +8,10 @@ use Rattle.console.proofs.report.put_bytes_line.Tie as tie
 returns : tie.Need-returns
 unfolding bytesLine
 returns c =
-    chain _ _ _ _ (c .before .before .before .before .before .before .before .before .before .before .before .put-word .ensures) (chain _ _ _ _ (c .before .before .before .before .before .before .before .put-listed .ensures) (c .before .before .put-word2 .ensures))
+    let last = c .before .before in
+    let bytes = last .before .before .before .before .before in
+    let word = bytes .before .before .before .before in
+    chain _ _ _ _ (word .put-word .ensures) (chain _ _ _ _ (bytes .put-listed .ensures) (last .put-word2 .ensures))
 
 pub put-bytes-line-spec : {M : Type 1} → statement M
 put-bytes-line-spec =

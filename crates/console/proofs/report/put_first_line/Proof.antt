@@ -11,13 +11,22 @@ use Rattle.console.proofs.report.put_first_line.Tie as tie
 returns : tie.Need-returns
 unfolding firstLine resultOf
 returns c =
-    chain _ _ _ _ (c .before .before .before .before .before .before .before .before .before .before .before .before .before .before .before .before .before .before .before .before .before .before .before .before .before .before .before .before .before .before .before .before .before .before .before .put-word .ensures) (
-    chain _ _ _ _ (said _ _ _ _ (ap (decimalOf 20) (c .before .before .before .before .before .before .before .before .before .before .before .before .before .before .before .before .before .before .before .before .before .before .before .before .before .before .before .before .before .before .before .number .ensures)) (c .before .before .before .before .before .before .before .before .before .before .before .before .before .before .before .before .before .before .before .before .before .before .before .before .before .before .before .before .before .before .put-decimal .ensures)) (
-    chain _ _ _ _ (c .before .before .before .before .before .before .before .before .before .before .before .before .before .before .before .before .before .before .before .before .before .before .before .before .before .put-word2 .ensures) (
-    chain _ _ _ _ (c .before .before .before .before .before .before .before .before .before .before .before .before .before .before .before .before .before .before .before .before .put-decimal2 .ensures) (
-    chain _ _ _ _ (c .before .before .before .before .before .before .before .before .before .before .before .before .before .before .before .put-word3 .ensures) (
-    chain _ _ _ _ (c .before .before .before .before .before .before .before .before .before .before .before .put-decimal3 .ensures) (
-    chain _ _ _ _ (c .before .before .before .before .before .before .before .put-beside .ensures) (c .before .before .put-word4 .ensures)))))))
+    let last = c .before .before in
+    let beside = last .before .before .before .before .before in
+    let events = beside .before .before .before .before in
+    let events-word = events .before .before .before .before in
+    let count = events-word .before .before .before .before .before in
+    let count-word = count .before .before .before .before .before in
+    let answer = count-word .before .before .before .before .before in
+    let answer-word = answer .before .before .before .before .before in
+    let number = ap (decimalOf 20) (answer .before .number .ensures) in
+    chain _ _ _ _ (answer-word .put-word .ensures) (
+    chain _ _ _ _ (said _ _ _ _ number (answer .put-decimal .ensures)) (
+    chain _ _ _ _ (count-word .put-word2 .ensures) (
+    chain _ _ _ _ (count .put-decimal2 .ensures) (
+    chain _ _ _ _ (events-word .put-word3 .ensures) (
+    chain _ _ _ _ (events .put-decimal3 .ensures) (
+    chain _ _ _ _ (beside .put-beside .ensures) (last .put-word4 .ensures)))))))
 
 same-length : tie.Need-same-length
 same-length c = same-room _ _ _ (returns c)

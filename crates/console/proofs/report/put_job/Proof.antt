@@ -8,7 +8,11 @@ use Rattle.console.proofs.report.put_job.Tie as tie
 returns : tie.Need-returns
 unfolding jobText
 returns c =
-    chain _ _ _ _ (c .before .before .before .before .before .before .before .before .before .before .before .before .put-first-line .ensures) (chain _ _ _ _ (c .before .before .before .before .before .before .before .put-bytes-line .ensures) (c .before .before .put-bytes-line2 .ensures))
+    let in-line = c .before .before in
+    let out-line = in-line .before .before .before .before .before in
+    let first = out-line .before .before .before .before .before in
+    chain _ _ _ _ (first .put-first-line .ensures) (
+    chain _ _ _ _ (out-line .put-bytes-line .ensures) (in-line .put-bytes-line2 .ensures))
 
 pub put-job-spec : {M : Type 1} → statement M
 put-job-spec =

@@ -9,7 +9,9 @@ use Rattle.driver.proofs.fast_path.is_mid_move.Statement.{statement}
 use Rattle.driver.proofs.fast_path.is_mid_move.Tie as tie
 
 add-last : tie.Need-add-last
-add-last c = omega (arith, parts (c .before .before .before .before .before .before .args .c) (sym (c .before .before .is-sound .ensures) ∙ c .before .if3 .taken) .moved)
+add-last c =
+    let sound = sym (c .before .before .is-sound .ensures) ∙ c .before .if3 .taken in
+    omega (arith, parts (c .before .before .before .before .before .before .args .c) sound .moved)
 
 returns : tie.Need-returns
 unfolding isMidMove
@@ -21,7 +23,9 @@ returns c =
 
 returns-2 : tie.Need-returns-2
 unfolding isMidMove
-returns-2 c = search (sym (c .before .is-sound .ensures) ∙ c .if3 .left, c .before .before .if2 .taken, sym (c .before .before .before .before .moves-byte .ensures) ∙ c .before .before .before .if1 .taken, cases)
+returns-2 c =
+    let moves = sym (c .before .before .before .before .moves-byte .ensures) ∙ c .before .before .before .if1 .taken in
+    search (sym (c .before .is-sound .ensures) ∙ c .if3 .left, c .before .before .if2 .taken, moves, cases)
 
 returns-3 : tie.Need-returns-3
 unfolding isMidMove

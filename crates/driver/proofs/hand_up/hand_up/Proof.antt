@@ -13,15 +13,26 @@ use Rattle.driver.proofs.hand_up.hand_up.Tie as tie
 
 returns : tie.Need-returns
 unfolding handsUp
-returns c = c .before .before .copy-first .ensures ∙ sym (ap (λ (l : List ℕ). laid l (now (c .before .before .before .before .before .before .before .before .before .before .before .args .destination))) (if-true _ _ _ (and-true _ _ (ap (λ (k : ℕ). eqb k 0) (sym (c .before .before .before .before .before .before .before .before .before .number .ensures)) ∙ c .before .before .before .before .before .before .before .before .if1 .taken) (ap (λ (k : ℕ). eqb k 1) (sym (c .before .before .before .before .before .before .before .bit .ensures)) ∙ c .before .before .before .before .before .before .if2 .taken))))
+returns c =
+    let s = c .before .before .before .before .before .before in
+    let destination = now (s .before .before .before .before .before .args .destination) in
+    let done = ap (λ (k : ℕ). eqb k 0) (sym (s .before .before .before .number .ensures)) ∙ s .before .before .if1 .taken in
+    let read = ap (λ (k : ℕ). eqb k 1) (sym (s .before .bit .ensures)) ∙ s .if2 .taken in
+    c .before .before .copy-first .ensures ∙ sym (ap (λ (l : List ℕ). laid l destination) (if-true _ _ _ (and-true _ _ done read)))
 
 returns-2 : tie.Need-returns-2
 unfolding handsUp laid
-returns-2 c = sym (ap (λ (l : List ℕ). laid l (now (c .before .before .before .before .before .args .destination))) (if-false _ _ _ (and-no-right _ _ (ap (λ (k : ℕ). eqb k 1) (sym (c .before .bit .ensures)) ∙ c .if2 .left))))
+returns-2 c =
+    let destination = now (c .before .before .before .before .before .args .destination) in
+    let written = ap (λ (k : ℕ). eqb k 1) (sym (c .before .bit .ensures)) ∙ c .if2 .left in
+    sym (ap (λ (l : List ℕ). laid l destination) (if-false _ _ _ (and-no-right _ _ written)))
 
 returns-3 : tie.Need-returns-3
 unfolding handsUp laid
-returns-3 c = sym (ap (λ (l : List ℕ). laid l (now (c .before .before .before .args .destination))) (if-false _ _ _ (and-no-left _ _ (ap (λ (k : ℕ). eqb k 0) (sym (c .before .number .ensures)) ∙ c .if1 .left))))
+returns-3 c =
+    let destination = now (c .before .before .before .args .destination) in
+    let undone = ap (λ (k : ℕ). eqb k 0) (sym (c .before .number .ensures)) ∙ c .if1 .left in
+    sym (ap (λ (l : List ℕ). laid l destination) (if-false _ _ _ (and-no-left _ _ undone)))
 
 pub hand-up-spec : {M : Type 1} → statement M
 hand-up-spec =

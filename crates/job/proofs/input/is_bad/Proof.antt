@@ -28,7 +28,8 @@ returns-3 c = search cases
 
 add-result : tie.Need-add-result
 add-result c =
-    let small = data-small (now (c .before .before .before .before .before .before .args .input)) (c .before .before .before .before .before .shared-slice-known .given 2 .fits) in
+    let s = c .before .before .before .before .before in
+    let small = data-small (now (s .before .args .input)) (s .shared-slice-known .given 2 .fits) in
     omega (arith, c .data-size .ensures, small)
 
 returns-4 : tie.Need-returns-4

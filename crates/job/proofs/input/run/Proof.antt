@@ -23,26 +23,32 @@ data-size-requires c κs = has-head _ (sym (c .before .is-bad .ensures) ∙ c .i
 
 add-start : tie.Need-add-start
 add-start c =
-    let small = data-small (now (c .before .before .before .before .before .args .input)) (c .before .before .before .before .shared-slice-known .given 2 .fits) in
+    let s = c .before .before .before .before in
+    let small = data-small (now (s .before .args .input)) (s .shared-slice-known .given 2 .fits) in
     omega (arith, c .data-size .ensures, small)
 
 job-in-requires : tie.Need-job-in-requires
 job-in-requires c κs = has-head _ (sym (c .before .before .is-bad .ensures) ∙ c .before .if1 .left)
 
 part-put-run-end : tie.Need-part-put-run-end
-part-put-run-end c = omega (arith, c .before .data-size .ensures, has-data _ (sym (c .before .before .before .is-bad .ensures) ∙ c .before .before .if1 .left))
+part-put-run-end c =
+    let fine = sym (c .before .before .before .is-bad .ensures) ∙ c .before .before .if1 .left in
+    omega (arith, c .before .data-size .ensures, has-data _ fine)
 
 sub-put-run-2 : tie.Need-sub-put-run-2
-sub-put-run-2 c = omega (arith, c .before .before .data-size .ensures, has-data _ (sym (c .before .before .before .before .is-bad .ensures) ∙ c .before .before .before .if1 .left))
+sub-put-run-2 c =
+    let fine = sym (c .before .before .before .before .is-bad .ensures) ∙ c .before .before .before .if1 .left in
+    omega (arith, c .before .before .data-size .ensures, has-data _ fine)
 
 part-put-run-start-2 : tie.Need-part-put-run-start-2
-part-put-run-start-2 c = omega (arith, c .before .before .data-size .ensures, has-data _ (sym (c .before .before .before .before .is-bad .ensures) ∙ c .before .before .before .if1 .left))
+part-put-run-start-2 c = sub-put-run-2 c
 
 returns-2 : tie.Need-returns-2
 unfolding programText programReport
 returns-2 c =
-    let input = now (c .before .before .before .before .before .before .before .before .before .before .before .before .args .input) in
-    let fine = sym (c .before .before .before .before .before .before .before .before .before .is-bad .ensures) ∙ c .before .before .before .before .before .before .before .before .if1 .left in
+    let s = c .before .before .before .before .before .before .before .before in
+    let input = now (s .before .before .before .before .args .input) in
+    let fine = sym (s .before .is-bad .ensures) ∙ s .if1 .left in
     let size = c .before .before .before .before .before .before .before .data-size in
     let same = data-part input (size .result) _ (size .ensures) in
     let rest = script-part input (3 + size .result) _ (ap (λ (n : ℕ). 3 + n) (size .ensures)) in

@@ -48,11 +48,13 @@ put-log-requires c κs =
 returns-3 : tie.Need-returns-3
 unfolding traceCall
 returns-3 c =
-    let s = c .before .before .before .before .before .before .before .before .before .before in
+    let t = c .before .before .before .before .before in
+    let s = t .before .before .before .before .before in
     let trace = now (s .args .trace) in
     let log = now (s .args .log) in
-    let e : traceCall trace (length log) ≡ record { done = true; logged = logOf fresh trace } =
-    if-false _ _ _ (or-false _ _ (sym (c .before .before .before .before .before .before .before .is-bad .ensures) ∙ c .before .before .before .before .before .before .if1 .left) (same-room (length log) (length trace / 3) ∙ c .before .before .before .before .before .if2 .left)) in (
+    let fine = sym (t .before .before .is-bad .ensures) ∙ t .before .if1 .left in
+    let room = same-room (length log) (length trace / 3) ∙ t .if2 .left in
+    let e : traceCall trace (length log) ≡ record { done = true; logged = logOf fresh trace } = if-false _ _ _ (or-false _ _ fine room) in (
       sym (ap (λ (r : TraceCall). r .done) e),
       c .before .before .put-log .ensures
           ∙ ap (λ (d : Controller). laid (logOf d trace) log) (c .before .before .before .before .fresh .ensures)

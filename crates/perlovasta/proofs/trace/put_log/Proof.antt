@@ -37,18 +37,33 @@ abbrev μ-loop : tie.MeasureT-loop
 loop-holds : tie.Need-loop-holds Inv-loop μ-loop
 loop-holds c = (search needs, omega (arith, c .before .before .pre .0), refl, c .before .before .pre .1, at-start _ _)
 
--- where the two ways meet: the record is the one after the group
-joined : (c : lts.Joined1 (access-reads.Asked, access-reads.Learnt, refused-reads.Asked, refused-reads.Learnt, log-entry-reads.Asked, log-entry-reads.Learnt, put-eight-reads.Asked, put-eight-reads.Learnt) reads.Pre reads.Post Inv-loop μ-loop) → c .if1 .c ≡ c .before .before .access .result .controller
+-- where the two ways meet
+abbrev Met : Type 0
+Met =
+    lts.Joined1 (
+      access-reads.Asked,
+      access-reads.Learnt,
+      refused-reads.Asked,
+      refused-reads.Learnt,
+      log-entry-reads.Asked,
+      log-entry-reads.Learnt,
+      put-eight-reads.Asked,
+      put-eight-reads.Learnt,
+    )
+    reads.Pre reads.Post Inv-loop μ-loop
+
+-- the record there is the one after the group
+joined : (c : Met) → c .if1 .c ≡ c .before .before .access .result .controller
 joined c =
     let l = c .before .before .before .before .before .before .before .loop in
+    let access = c .before .before .access in
     ⊎-elim
     (λ w. w .2)
-    (λ w.
-    w .1 ∙ sym (refused-group (l .c) _ _ _ (c .before .before .access .result) (c .before .before .access .ensures) (λ h. w .0 .left (c .before .refused .ensures ∙ h))))
+    (λ w. w .1 ∙ sym (refused-group (l .c) _ _ _ (access .result) (access .ensures) (λ h. w .0 .left (c .before .refused .ensures ∙ h))))
     (c .if1 .came)
 
 -- and it is sound
-stays-sound : (c : lts.Joined1 (access-reads.Asked, access-reads.Learnt, refused-reads.Asked, refused-reads.Learnt, log-entry-reads.Asked, log-entry-reads.Learnt, put-eight-reads.Asked, put-eight-reads.Learnt) reads.Pre reads.Post Inv-loop μ-loop) → sound (c .if1 .c) ≡ true
+stays-sound : (c : Met) → sound (c .if1 .c) ≡ true
 unfolding outcomeOf
 stays-sound c =
     let l = c .before .before .before .before .before .before .before .loop in
@@ -58,13 +73,19 @@ log-entry-requires : tie.Need-log-entry-requires Inv-loop μ-loop
 log-entry-requires c κs = stays-sound (c .before)
 
 put-eight-requires : tie.Need-put-eight-requires Inv-loop μ-loop
-put-eight-requires c κs = omega (arith, c .before .before .before .before .before .before .before .before .loop-test .taken, c .before .before .before .before .before .before .before .before .before .loop .inv .1)
+put-eight-requires c κs =
+    let s = c .before .before .before .before .before .before .before .before in
+    omega (arith, s .loop-test .taken, s .before .loop .inv .1)
 
 add-i : tie.Need-add-i Inv-loop μ-loop
-add-i c = omega (arith, c .before .before .before .before .before .before .before .before .before .before .before .loop-test .taken, c .before .before .before .before .before .before .before .before .before .before .before .before .before .before .before .good)
+add-i c =
+    let s = c .before .before .before .before .before .before .before .before .before .before .before in
+    omega (arith, s .loop-test .taken, s .before .before .before .before .good)
 
 add-at : tie.Need-add-at Inv-loop μ-loop
-add-at c = omega (arith, c .before .before .before .before .before .before .before .before .before .before .before .loop-test .taken, c .before .before .before .before .before .before .before .before .before .before .before .before .loop .inv .1, c .before .before .before .before .before .before .before .before .before .before .before .before .loop .inv .2, c .before .before .before .before .before .before .before .before .before .before .before .before .before .before .before .good)
+add-at c =
+    let s = c .before .before .before .before .before .before .before .before .before .before .before in
+    omega (arith, s .loop-test .taken, s .before .loop .inv .1, s .before .loop .inv .2, s .before .before .before .before .good)
 
 loop-less : tie.Need-loop-less Inv-loop μ-loop
 loop-less c = omega (arith, c .before .before .before .before .before .before .before .before .before .before .before .loop-test .taken)
@@ -72,15 +93,17 @@ loop-less c = omega (arith, c .before .before .before .before .before .before .b
 loop-again : tie.Need-loop-again Inv-loop μ-loop
 unfolding outcomeOf leaves
 loop-again c =
-    let l = c .before .before .before .before .before .before .before .before .before .before .before .before .loop in
-    let trace = now (c .before .before .before .before .before .before .before .before .before .before .before .before .before .before .before .args .trace) in
-    let more : l .i + 2 < length trace = omega (arith, c .before .before .before .before .before .before .before .before .before .before .before .loop-test .taken) in
+    let s = c .before .before .before .before .before .before .before .before .before .before .before in
+    let l = s .before .loop in
+    let trace = now (s .before .before .before .before .args .trace) in
+    let more : l .i + 2 < length trace = omega (arith, s .loop-test .taken) in
     let met = c .before .before .before .before .before in
     let access = c .before .before .before .before .before .before .before .access in
     let put = c .before .before .put-eight in
     let rest = drop (l .i + 3) trace in
     let next = joined met ∙ ap (λ (o : Outcome). o .next) (access .ensures) in
-    let entry = c .before .before .before .log-entry .ensures ∙ ap (λ (d : Controller). entryOf (leaves (access .result .answer) d)) (joined met) ∙ ap entryOf (access .ensures) in (
+    let left = ap (λ (d : Controller). entryOf (leaves (access .result .answer) d)) (joined met) in
+    let entry = c .before .before .before .log-entry .ensures ∙ left ∙ ap entryOf (access .ensures) in (
       omega (arith, more),
       omega (arith, more, l .inv .1, put .kept),
       omega (arith, put .kept, l .inv .2),

@@ -17,7 +17,10 @@ returns-2 c = search (key-is 1 (c .before .before .args .kind) (c .before .match
 
 returns-3 : tie.Need-returns-3
 unfolding groupOf
-returns-3 c = search (ne-eqb (c .before .before .args .kind) 1 (c .before .match .rest .1), ne-eqb (c .before .before .args .kind) 0 (c .before .match .rest .0 .1), cases)
+returns-3 c =
+    let kind = c .before .before .args .kind in
+    let rest = c .before .match .rest in
+    search (ne-eqb kind 1 (rest .1), ne-eqb kind 0 (rest .0 .1), cases)
 
 pub access-spec : {M : Type 1} → statement M
 access-spec = tie.close (tie.spec (λ c κs. search needs) (λ c κs. search needs) (λ c κs. search needs) returns returns-2 returns-3)

@@ -11,15 +11,23 @@ use Rattle.service.proofs.checks.is_ready.Tie as tie
 
 returns : tie.Need-returns
 unfolding ready
-returns c = search (sym (c .before .before .before .before .before .is-sound .ensures) ∙ c .before .before .before .before .if1 .taken, at-turn free (c .before .before .before .before .before .before .args .c .turn) (c .before .before .before .match .keys1), cases)
+returns c =
+    let s = c .before .before .before in
+    let sound = sym (s .before .before .is-sound .ensures) ∙ s .before .if1 .taken in
+    search (sound, at-turn free (s .before .before .before .args .c .turn) (s .match .keys1), cases)
 
 returns-2 : tie.Need-returns-2
 unfolding ready
-returns-2 c = search (sym (c .before .before .before .before .is-sound .ensures) ∙ c .before .before .before .if1 .taken, at-turn free (c .before .before .before .before .before .args .c .turn) (c .before .before .match .keys1), cases)
+returns-2 c =
+    let s = c .before .before in
+    let sound = sym (s .before .before .is-sound .ensures) ∙ s .before .if1 .taken in
+    search (sound, at-turn free (s .before .before .before .args .c .turn) (s .match .keys1), cases)
 
 returns-3 : tie.Need-returns-3
 unfolding ready
-returns-3 c = search (sym (c .before .before .is-sound .ensures) ∙ c .before .if1 .taken, at-turns (except (free ∷ [])) (c .before .before .before .args .c .turn) (c .match .keys2), cases)
+returns-3 c =
+    let sound = sym (c .before .before .is-sound .ensures) ∙ c .before .if1 .taken in
+    search (sound, at-turns (except (free ∷ [])) (c .before .before .before .args .c .turn) (c .match .keys2), cases)
 
 returns-4 : tie.Need-returns-4
 unfolding ready

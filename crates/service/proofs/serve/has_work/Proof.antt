@@ -17,7 +17,10 @@ returns-2 c = rw (c .match .keys2)
 
 returns-3 : tie.Need-returns-3
 unfolding hasWork
-returns-3 c = rw (c .reads .ensures) (search (ne-eqb (c .before .before .args .event) 4 (c .before .match .rest .1), ne-eqb (c .before .before .args .event) 14 (c .before .match .rest .0 .1), cases))
+returns-3 c =
+    let event = c .before .before .args .event in
+    let rest = c .before .match .rest in
+    rw (c .reads .ensures) (search (ne-eqb event 4 (rest .1), ne-eqb event 14 (rest .0 .1), cases))
 
 pub has-work-spec : {M : Type 1} → statement M
 has-work-spec = tie.close (tie.spec (λ c κs. search needs) returns returns-2 returns-3)

@@ -13,13 +13,19 @@ use Rattle.service.proofs.table.send_data.Statement.{statement}
 use Rattle.service.proofs.table.send_data.Tie as tie
 
 slice-aggregate-write-block : tie.Need-slice-aggregate-write-block
-slice-aggregate-write-block c = sym (length-take-le (c .before .before .before .before .args .job .n) (c .before .before .before .before .args .payload .now) (omega arith))
+slice-aggregate-write-block c =
+    let args = c .before .before .before .before .args in
+    sym (length-take-le (args .job .n) (args .payload .now) (omega arith))
 
 returns : tie.Need-returns
 returns c = c .put .ensures ∙ ap (λ (d : Controller). put d 3 0x41) (c .before .write-block .ensures)
 
 returns-2 : tie.Need-returns-2
-returns-2 c = c .put2 .ensures ∙ ap (λ (d : Controller). put d 3 0x41) (c .before .write-block2 .ensures ∙ ap (λ (l : List ℕ). written l (c .before .before .before .before .before .args .c)) (sym (take-all (c .before .before .before .before .before .args .job .n) (now (c .before .before .before .before .before .args .payload)) (c .before .before .if1 .left))))
+returns-2 c =
+    let args = c .before .before .before .before .before .args in
+    let whole = sym (take-all (args .job .n) (now (args .payload)) (c .before .before .if1 .left)) in
+    c .put2 .ensures
+    ∙ ap (λ (d : Controller). put d 3 0x41) (c .before .write-block2 .ensures ∙ ap (λ (l : List ℕ). written l (args .c)) whole)
 
 pub send-data-spec : {M : Type 1} → statement M
 send-data-spec =

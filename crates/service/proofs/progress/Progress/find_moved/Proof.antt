@@ -5,7 +5,9 @@ use Rattle.service.proofs.progress.Progress.find_moved.Tie as tie
 
 returns : tie.Need-returns
 unfolding doesAll does
-returns c = rw (c .go-on2 .ensures, c .before .put2 .ensures, c .before .before .before .count-read .ensures, c .before .before .before .before .go-on .ensures, c .before .before .before .before .before .put .ensures)
+returns c =
+    let s = c .before .before .before in
+    rw (c .go-on2 .ensures, c .before .put2 .ensures, s .count-read .ensures, s .before .go-on .ensures, s .before .before .put .ensures)
 
 pub find-moved-spec : {M : Type 1} → statement M
 find-moved-spec =
