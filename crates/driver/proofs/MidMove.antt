@@ -17,6 +17,7 @@ use Rattle.controller.specs.declared.record.Controller.{Controller}
 use Rattle.driver.specs.FastPath.{movesByte, isMidMove, bufferAfter, midMoveNext, midMoveValue}
 use Rattle.laws.proofs.Soundness.{event-stays-sound}
 use Rattle.laws.proofs.Status.{status-reads}
+use Rattle.notation.proofs.Among.{one-of}
 use Rattle.notation.proofs.Cases.{if-true, if-false, and-left, and-right, split}
 use Rattle.notation.specs.Choice.{if_then_else_, _or_, among}
 use Rattle.service.specs.Act.{reads}
@@ -27,15 +28,6 @@ pub record Passes (event argument : ℕ) (c : Controller) : Type 0 where
   pub below : c .moved < 68
   pub given : eventOf c event argument ≡ accepts (midMoveNext event argument c) (midMoveValue event c)
   pub waiting : hasWork event (midMoveNext event argument c) ≡ false
-
--- the one number listed
-only : (x k : ℕ) → among x (k ∷ []) ≡ true → x ≡ k
-unfolding among if_then_else_
-only x k e = step (eqb x k) refl e
-  where
-    step : (b : Bool) → eqb x k ≡ b → (if b then true else false) ≡ true → x ≡ k
-    step true q h = eqb-true x k q
-    step false q h = absurd (false≢true h)
 
 module _ (c : Controller) (mode : c .control .mode ≡ true) (s : sound c ≡ true) (more : eqb (c .moved + 1) (byteCount c) ≡ false) where
   at-moved : cursor c ≡ c .moved
@@ -100,11 +92,11 @@ module _ (c : Controller) (mode : c .control .mode ≡ true) (s : sound c ≡ tr
   unfolding movesByte
   by-turn event argument =
       split P (among (kind (c .turn)) (receive ∷ [])) _ _
-      (λ t e. subst (λ (n : ℕ). Passes n argument c) (sym (eqb-true event 7 e)) (comes-in argument (only _ receive t)))
+      (λ t e. subst (λ (n : ℕ). Passes n argument c) (sym (eqb-true event 7 e)) (comes-in argument (one-of (receive ∷ []) _ t)))
       (λ _. split P (among (kind (c .turn)) (send ∷ [])) _ _
       (λ t e. let e₆ = eqb-true event 6 (and-left _ _ e) in
       let e₀ = eqb-true argument 0 (and-right (eqb event 6) _ e) in
-      subst (λ (n : ℕ). Passes n argument c) (sym e₆) (subst (λ (x : ℕ). Passes 6 x c) (sym e₀) (goes-out (only _ send t))))
+      subst (λ (n : ℕ). Passes n argument c) (sym e₆) (subst (λ (x : ℕ). Passes 6 x c) (sym e₀) (goes-out (one-of (send ∷ []) _ t))))
       (λ _ e. absurd (false≢true e)))
     where
       P : Bool → Type 0
