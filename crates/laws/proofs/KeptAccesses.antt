@@ -20,10 +20,10 @@ use Rattle.control.specs.declared.writing.Response.{Response}
 use Rattle.controller.proofs.SoundParts.{parts, whole}
 use Rattle.controller.specs.Access.{barsWrite, indirectAt, readSound, writeSound}
 use Rattle.controller.specs.I2ccon.{keeps, controlled, badCount, enabled, withoutStart, writeFlags, writeControl}
-use Rattle.controller.specs.Record.{place, byteCount, hostSound, moveSound, sound}
+use Rattle.controller.specs.Record.{byteCount, hostSound, moveSound, sound}
 use Rattle.controller.specs.Setters.{withPlace, withHand, withPointer, withArmed, withRegisters}
 use Rattle.controller.specs.Registers.{wrote, writePointer, readData, writeData, stored, writeAtPointer}
-use Rattle.controller.specs.Reset.{reset, resetWith, completesReset, writePreset}
+use Rattle.controller.specs.Reset.{resetWith, completesReset, writePreset}
 use Rattle.controller.specs.declared.record.Controller.{Controller}
 use Rattle.controller.specs.declared.record.Registers.{Registers}
 use Rattle.notation.proofs.Among.{among-has, without}

@@ -1,6 +1,5 @@
 -- What the driver's register accesses leave, where a job makes them. Assumes nothing.
 use mathlib.Core.Bool.{true, false}
-use mathlib.Core.List.{[], _∷_}
 use mathlib.Core.Path.{_≡_, refl, ap, _∙_}
 use Prim.Native.Nat.{ℕ, _+_, _%_, _<_}
 use native.Mathlib.Omega.{arith}
@@ -19,7 +18,7 @@ use Rattle.controller.specs.Setters.{withPlace, withHand, withMoved, withPointe
 use Rattle.controller.specs.Registers.{wrote, writePointer, readData, writeData, stored, withCount, writeAtPointer}
 use Rattle.controller.specs.Reply.{Outcome, refuses, accepts}
 use Rattle.controller.specs.declared.record.Controller.{Controller}
-use Rattle.notation.proofs.Cases.{and-no-right, split}
+use Rattle.notation.proofs.Cases.{split}
 use Rattle.notation.specs.Choice.{if_then_else_, _and_, _or_, among}
 use Rattle.service.specs.Act.{put}
 

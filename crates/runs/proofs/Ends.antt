@@ -1,12 +1,11 @@
 -- The events that end a job: own STOP, the reset pin, lost arbitration and faults. Assumes nothing.
-use mathlib.Core.Bool.{true, false}
+use mathlib.Core.Bool.{false}
 use mathlib.Core.List.{List, [], _∷_}
 use mathlib.Core.Path.{_≡_, refl, sym, subst}
 use Prim.Native.Nat.{ℕ}
 use native.Mathlib.Omega.{arith}
 use lib.Dec.{eqb}
 use Rattle.address.specs.declared.matching.Match.{Match}
-use Rattle.answer.specs.Ending.{numberOf}
 use Rattle.answer.specs.declared.ending.Ending.the-variants as ending
 use Rattle.control.specs.Turn.{stopping}
 use Rattle.control.specs.declared.turn.Turn.the-variants as turn
@@ -20,7 +19,7 @@ use Rattle.notation.specs.Choice.{if_then_else_}
 use Rattle.runs.proofs.Invariant.{In, Good, Stepped, ended}
 use Rattle.runs.proofs.Lines.{Line, lostWork, faultWork}
 use Rattle.runs.proofs.Step.{Step, refusing, hosting, broken, no-match}
-use Rattle.service.specs.Act.{does, doesAll, follows, performs}
+use Rattle.service.specs.Act.{doesAll, follows, performs}
 use Rattle.service.specs.Serve.{Table, serve}
 use Rattle.service.specs.declared.job.Job.{Job}
 use Rattle.service.specs.declared.progress.Progress.{Progress}

@@ -11,7 +11,7 @@ use Rattle.address.specs.Number.{bitOf}
 use Rattle.address.specs.declared.number.Direction.the-variants.{Write, Read}
 use Rattle.address.specs.declared.number.Direction.{Direction}
 use Rattle.controller.specs.declared.record.Controller.{Controller}
-use Rattle.driver.specs.Run.{Report, run, handsUp, reports, declines, jobOf}
+use Rattle.driver.specs.Run.{run, handsUp, reports, declines, jobOf}
 use Rattle.notation.proofs.Cases.{and-right, split}
 use Rattle.notation.specs.Choice.{_and_}
 use Rattle.notation.specs.Overlay.{laid}

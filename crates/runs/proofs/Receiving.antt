@@ -8,8 +8,6 @@ use borrow.Author.Tests.{eqb-true, le-ltb}
 use lib.Dec.{eqb}
 use lib.ListN.{length, take, set, length-set}
 use lib.Seq.{take-suc-set}
-use Rattle.address.specs.declared.number.Direction.the-variants.{Read}
-use Rattle.address.specs.declared.number.Direction.{Direction}
 use Rattle.answer.specs.declared.ending.Ending.the-variants as ending
 use Rattle.control.proofs.Turning.{status-idle}
 use Rattle.control.specs.Flags.{flagsOf}
@@ -30,8 +28,7 @@ use Rattle.runs.proofs.Sending.{byte-count, hosted-whole}
 use Rattle.runs.proofs.Starts.{stops-good}
 use Rattle.runs.proofs.Step.{Step, hosted, refusing, hosting, idling, here, regood}
 use Rattle.service.proofs.Formed.{Formed}
-use Rattle.service.specs.Act.{fetch, readTimes}
-use Rattle.service.specs.JobSteps.{countOf}
+use Rattle.service.specs.Act.{readTimes}
 use Rattle.service.specs.Progress.{withNotedCount}
 use Rattle.service.specs.Serve.{Table}
 use Rattle.service.specs.declared.job.Job.{Job}

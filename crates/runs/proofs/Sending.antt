@@ -6,22 +6,22 @@ use Prim.Native.Nat.{ℕ, suc, _+_, _%_, _≤_}
 use native.Mathlib.Omega.{arith}
 use lib.Dec.{eqb}
 use lib.ListN.{length, take}
-use Rattle.address.specs.Number.{byteOf, directionOf}
+use Rattle.address.specs.Number.{directionOf}
 use Rattle.address.specs.declared.number.Direction.the-variants.{Write, Read}
 use Rattle.address.specs.declared.number.Direction.{Direction}
 use Rattle.answer.specs.Ending.{numberOf}
 use Rattle.answer.specs.declared.ending.Ending.the-variants as ending
 use Rattle.control.proofs.Turning.{status-idle}
 use Rattle.control.specs.Flags.{flagsOf}
-use Rattle.control.specs.Turn.{faults, host, address, send, slaveSend, dataTurns, kind}
+use Rattle.control.specs.Turn.{faults, host, address, send, dataTurns}
 use Rattle.control.specs.Writing.{endOr, respondsAt}
 use Rattle.control.specs.declared.turn.Edge.the-variants.{Stop}
 use Rattle.control.specs.declared.turn.Turn.the-variants as turn
 use Rattle.control.specs.declared.writing.Response.the-variants.{Next}
-use Rattle.controller.specs.Record.{place, byteCount, sound}
+use Rattle.controller.specs.Record.{byteCount, sound}
 use Rattle.controller.specs.Reply.{Outcome, accepts, gives}
 use Rattle.controller.specs.Setters.{withPointer, withArmed}
-use Rattle.controller.specs.Transfer.{counted, dataOut, addressStatus, sentDirection, byteOut}
+use Rattle.controller.specs.Transfer.{counted, dataOut, addressStatus, sentDirection}
 use Rattle.controller.specs.declared.record.Controller.{Controller}
 use Rattle.driver.specs.Run.{taking}
 use Rattle.laws.proofs.Addresses.{direction-back}
@@ -34,9 +34,9 @@ use Rattle.runs.proofs.Invariant.{In, earlyTurns, write-no-read, count-
 use Rattle.runs.proofs.Lines.{Line, dataWork, receiveWork, nackedWork, sentWork, dataNackedWork}
 use Rattle.runs.proofs.Lines.{loads, receives, counts-and-stops, pointsBack, finds-and-stops}
 use Rattle.runs.proofs.Starts.{stops-good, sends-good, receives-good}
-use Rattle.runs.proofs.Step.{Step, hosted, refusing, hosting, idling, here, regood}
+use Rattle.runs.proofs.Step.{Step, hosted, hosting, idling, regood}
 use Rattle.service.proofs.Formed.{Formed}
-use Rattle.service.specs.Act.{put, performs}
+use Rattle.service.specs.Act.{put}
 use Rattle.service.specs.Progress.{withRecord}
 use Rattle.service.specs.Serve.{Table}
 use Rattle.service.specs.declared.job.Job.{Job}

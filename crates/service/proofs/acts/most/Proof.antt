@@ -1,5 +1,4 @@
 -- `most` is `readTimes`: what is known at each return settles its test.
-use borrow.Author.Needs.{needs}
 use Rattle.notation.proofs.Cases.{cases}
 use Rattle.service.specs.Act.{readTimes}
 use Rattle.service.proofs.acts.most.Statement.{statement}

@@ -8,16 +8,15 @@ use borrow.Author.Tests.{ne-eqb}
 use lib.ListN.{take}
 use denote.Ref.{now}
 use types.Run.{OneOf}
-use Rattle.answer.specs.declared.ending.Ending.the-variants.{Done, AddressNacked, Fault}
+use Rattle.answer.specs.declared.ending.Ending.the-variants.{AddressNacked, Fault}
 use Rattle.control.specs.Turn.{faults}
 use Rattle.notation.proofs.Among.{none-of}
 use Rattle.notation.proofs.Cases.{cases}
 use Rattle.notation.specs.Choice.{if_then_else_, among}
-use Rattle.service.specs.Act.{Work, writes, readsAll, counts, does, doesAll, follows, performs}
+use Rattle.service.specs.Act.{Work, writes, counts, does, doesAll, follows, performs}
 use Rattle.service.specs.JobSteps.{goOnAfter, stopAfter, endAfter}
 use Rattle.service.specs.JobTable.{jobTable}
 use Rattle.service.specs.declared.job.Job.{Job}
-use Rattle.service.specs.declared.progress.Progress.{Progress}
 use Rattle.service.proofs.Blocks.{load-block}
 use Rattle.service.proofs.table.work_at.Statement.{statement}
 use Rattle.service.proofs.table.work_at.Tie as tie

@@ -1,5 +1,4 @@
 -- `write_flags` is `writeFlags`: what is known at each return settles the tests of the definition.
-use mathlib.Core.List.{[], _∷_}
 use mathlib.Core.Path.{_∙_}
 use borrow.Author.Needs.{needs}
 use Rattle.control.specs.Turn.{faults}
