@@ -28,7 +28,7 @@ pub data Action : Type 0 where
 pub data Shown : Type 0 where
   nothing : Shown
   accessed : (refused : ℕ) (turn : Turn) → Shown
-  worked : (answer count events : ℕ) (sent handed : List ℕ) (sta : Bool) → Shown
+  ran : (answer count events : ℕ) (sent handed : List ℕ) (sta : Bool) → Shown
 
 pub record After : Type 0 where
   pub next : Controller
@@ -40,7 +40,7 @@ afterAccess o = record { next = o .next; shown = accessed (o .refused) (o .next 
 abbrev pub afterJob : Report → After
 afterJob r = record {
   next = r .result .next;
-  shown = worked (r .result .answer) (r .result .count) (r .result .events) (r .sent) (r .handed) (r .result .next .control .sta);
+  shown = ran (r .result .answer) (r .result .count) (r .result .events) (r .sent) (r .handed) (r .result .next .control .sta);
 }
 
 abbrev pub act : Action → Controller → After
@@ -75,46 +75,46 @@ enabling = write 3 0x40
 abbrev pub caseA : Case
 caseA = record {
   given = enabling ∷ job Read 0x50 1 [] (0x01 ∷ 0x00 ∷ 0x06 ∷ 0x00 ∷ 0x07 ∷ 0x5C ∷ 0x04 ∷ 0x00 ∷ []) ∷ [];
-  shows = worked 0 1 4 (0xA1 ∷ []) (0x5C ∷ []) false;
+  shows = ran 0 1 4 (0xA1 ∷ []) (0x5C ∷ []) false;
 }
 
 -- b) "the same with 06 01 and then 04 00: 23, in empty, events 3"
 abbrev pub caseB : Case
 caseB = record {
   given = enabling ∷ job Read 0x50 1 [] (0x01 ∷ 0x00 ∷ 0x06 ∷ 0x01 ∷ 0x04 ∷ 0x00 ∷ []) ∷ [];
-  shows = worked 23 0 3 (0xA1 ∷ []) [] false;
+  shows = ran 23 0 3 (0xA1 ∷ []) [] false;
 }
 
 -- c) "write of 2, first data NACKed: 24, count 1"
 abbrev pub caseC : Case
 caseC = record {
   given = enabling ∷ job Write 0x50 2 (0x11 ∷ 0x22 ∷ []) (0x01 ∷ 0x00 ∷ 0x06 ∷ 0x00 ∷ 0x06 ∷ 0x01 ∷ 0x04 ∷ 0x00 ∷ []) ∷ [];
-  shows = worked 24 1 4 (0xA0 ∷ 0x11 ∷ []) [] false;
+  shows = ran 24 1 4 (0xA0 ∷ 0x11 ∷ []) [] false;
 }
 
 -- d) "n 68 can be done": a read, and a write
 abbrev pub caseDRead : Case
 caseDRead = record {
   given = enabling ∷ job Read 0x50 68 [] (0x01 ∷ 0x00 ∷ 0x06 ∷ 0x00 ∷ (times 68 0x07 0x5C ++ (0x04 ∷ 0x00 ∷ []))) ∷ [];
-  shows = worked 0 68 71 (0xA1 ∷ []) (replicate 68 0x5C) false;
+  shows = ran 0 68 71 (0xA1 ∷ []) (replicate 68 0x5C) false;
 }
 
 abbrev pub caseDWrite : Case
 caseDWrite = record {
   given = enabling ∷ job Write 0x50 68 (replicate 68 0x33) (0x01 ∷ 0x00 ∷ 0x06 ∷ 0x00 ∷ (times 68 0x06 0x00 ++ (0x04 ∷ 0x00 ∷ []))) ∷ [];
-  shows = worked 0 68 71 (0xA0 ∷ replicate 68 0x33) [] false;
+  shows = ran 0 68 71 (0xA0 ∷ replicate 68 0x33) [] false;
 }
 
 -- e) "n 0" and f) "n 69 are 21": the data are lent, so that n alone is wrong
 abbrev pub caseE : Case
-caseE = record { given = enabling ∷ job Write 0x50 0 [] [] ∷ []; shows = worked 21 0 0 [] [] false }
+caseE = record { given = enabling ∷ job Write 0x50 0 [] [] ∷ []; shows = ran 21 0 0 [] [] false }
 
 abbrev pub caseF : Case
-caseF = record { given = enabling ∷ job Write 0x50 69 (replicate 69 0x33) [] ∷ []; shows = worked 21 0 0 [] [] false }
+caseF = record { given = enabling ∷ job Write 0x50 69 (replicate 69 0x33) [] ∷ []; shows = ran 21 0 0 [] [] false }
 
 -- g) "empty script: 27, STA left 1"
 abbrev pub caseG : Case
-caseG = record { given = enabling ∷ job Read 0x50 1 [] [] ∷ []; shows = worked 27 0 0 [] [] true }
+caseG = record { given = enabling ∷ job Read 0x50 1 [] [] ∷ []; shows = ran 27 0 0 [] [] true }
 
 -- h) "BC 0 refused 6": I2CCOUNT 00h, and 41h at 18h
 abbrev pub caseH : Case

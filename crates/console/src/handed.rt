@@ -5,7 +5,7 @@ ghost use mathlib.Core.Path.{_≡_};
 ghost use Rattle.answer.specs.Ending.{numberOf};
 ghost use Rattle.runs.specs.OneRun.{handedCount};
 
-// The bytes that a job with this answer hands up.
+// How many bytes a job with this answer hands up.
 pub(crate) fn count_handed(job: Job, ending: Ending) -> usize
     ensures { λ r. ⌜ r ≡ handedCount job (numberOf ending) ⌝ }
 {

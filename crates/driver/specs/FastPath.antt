@@ -30,9 +30,10 @@ isMidMove event argument c =
 unfoldable pub bufferAfter : ℕ → ℕ → ℕ → List ℕ → List ℕ
 bufferAfter event argument moved buffer = if eqb event 7 then set buffer moved argument else buffer
 
--- the record after it, and the value: a byte out is the one at the moved count; a byte in is acknowledged, 0
+-- the record after it
 unfoldable pub midMoveNext : ℕ → ℕ → Controller → Controller
 midMoveNext event argument c = counted (withBuffer c (bufferAfter event argument (c .moved) (c .buffer)))
 
+-- its value: of a byte out the one at the moved count; a byte in is acknowledged, 0
 unfoldable pub midMoveValue : ℕ → Controller → ℕ
 midMoveValue event c = if eqb event 6 then place c (c .moved) else 0

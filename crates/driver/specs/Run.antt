@@ -18,6 +18,7 @@ use Rattle.service.specs.declared.job.Job.{Job}
 use Rattle.service.specs.declared.progress.Progress.{Progress}
 
 -- What a job answers, in the paper's numbers: the record, the answer, the number beside it, the count and the events used.
+-- (How many bytes were sent is promised beside it: the length of `sent` below.)
 pub record Result : Type 0 where
   pub next : Controller
   pub answer : ℕ

@@ -4,6 +4,7 @@ use crate::fast_path::pass;
 use crate::out_record::note;
 use answer::Answer;
 use answer::ending::Ending;
+use controller::record::Controller;
 use service::job::Job;
 use service::progress::Progress;
 use service::serve::has_work;
@@ -13,12 +14,23 @@ ghost use mathlib.Core.Path.{_≡_};
 ghost use lib.ListN.{length};
 ghost use Rattle.driver.specs.Run.{closes, run};
 ghost use Rattle.notation.specs.Overlay.{laid};
+ghost use Rattle.service.specs.Act.{ends, follows};
 ghost use Rattle.service.specs.JobTable.{jobTable};
+ghost use Rattle.service.specs.Progress.{reaching};
 
 // A job that is over, and how many bytes it sent.
 pub(crate) struct Ended {
     pub(crate) progress: Progress,
     pub(crate) sent: usize,
+}
+
+// The job ends here, with this answer.
+fn end_at(p: Progress, c: Controller, events: usize, sent: usize, ending: Ending) -> Ended
+    ensures end { λ r. ⌜ r .progress ≡ follows (ends ending) (reaching p c events) ⌝ }
+    ensures sent { λ r. ⌜ r .sent ≡ sent ⌝ }
+{
+    let progress = p.reach(c, events).end(ending);
+    Ended { progress, sent }
 }
 
 // Takes pairs while the job lasts; what it breaks with is the end of the job. (The record and the number of pairs are
@@ -43,8 +55,7 @@ pub(crate) fn run_pairs(
     let mut i = 0;
     loop {
         if script.len() - i < 2 {
-            let progress = p.reach(c, events).end(Ending::Unfinished);
-            break Ended { progress, sent };
+            break end_at(p, c, events, sent, Ending::Unfinished);
         }
         let event = script[i];
         let argument = script[i + 1];
@@ -59,10 +70,7 @@ pub(crate) fn run_pairs(
         let reply = c.event(event, argument);
         let answer = reply.answer;
         match answer {
-            Answer::Refused(why) => {
-                let progress = p.reach(c, events).end(Ending::Refused(why));
-                break Ended { progress, sent };
-            }
+            Answer::Refused(why) => break end_at(p, c, events, sent, Ending::Refused(why)),
             Answer::Accepted(value) => {
                 sent = note(out, sent, event, value);
                 c = reply.controller;
@@ -71,8 +79,7 @@ pub(crate) fn run_pairs(
                     p = serve(job, payload, event, p.reach(c, events));
                     c = p.controller;
                     if p.over {
-                        let progress = p;
-                        break Ended { progress, sent };
+                        break Ended { progress: p, sent };
                     }
                 }
             }

@@ -9,7 +9,7 @@ use Rattle.controller.specs.declared.record.Controller.{Controller}
 use Rattle.driver.specs.Run.{Report, declines}
 use Rattle.job.specs.Program.{badInput, programReport, programText}
 use Rattle.notation.proofs.Cases.{split}
-use Rattle.requests.proofs.Places.{fresh-enabled-places}
+use Rattle.requests.proofs.FreshEnabled.{fresh-enabled-places}
 use Rattle.requests.specs.Jobs.{freshEnabled}
 
 declined-size : (c : Controller) (answer : ℕ) → length (reportText (declines c answer)) ≤ 1024

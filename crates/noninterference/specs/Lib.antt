@@ -1,2 +1,2 @@
--- Demand 3 of document 01.
+-- Demand 3, as document 01 spells it out.
 pub mod OldBytes

@@ -1,4 +1,4 @@
--- Demand 3, "No old bytes", whole, as one statement, `Demand3`, at the end of this file. That it holds is `demand-3` in
+-- Demand 3, whole, as one statement, `Demand3`, at the end of this file. That it holds is `demand-3` in
 -- proofs/Theorem.antt; nothing of the proof has to be read to know what is claimed. Quotations are of document 01, but where `demand`
 -- stands before them: those are of the demand itself, which document 01 spells out.
 --
@@ -26,8 +26,8 @@ pub record Request : Type 0 where
   pub outLength : ℕ
   pub script : List ℕ
 
--- What the list may hold. Demand: "the same list of jobs, resets, enabling writes and other masters' STARTs, STOPs and address bytes,
--- refused ones included". It is wider than the paper's list: any byte to INDPTR, to register 2 whatever the pointer, and to I2CCON.
+-- What the list may hold. Demand: "the same list of jobs with their scripts, resets, enabling writes and other masters' STARTs, STOPs
+-- and address bytes, in any order, refused ones included". It is wider than the paper's list: any byte to INDPTR, to register 2 whatever the pointer, and to I2CCON.
 pub data Item : Type 0 where
   -- a job with its script
   runJob : Request → Item
@@ -120,8 +120,8 @@ pub record AlikeButForPlaces (c c′ : Controller) : Type 0 where
   pub bufferLength : length (c .buffer) ≡ 68
   pub bufferLength′ : length (c′ .buffer) ≡ 68
 
--- Demand: "Two controllers .. give the same answers, counts, bytes sent and bytes handed up from the first to the last; and every
--- finished read hands up exactly what the bus carried."
+-- Demand: "the two give the same answers, counts, bytes sent and bytes handed up, from the first on the list to the last. In every
+-- finished read on the list, the bytes handed up are exactly those the bus carried in that read, in the order it carried them."
 pub record NoOldBytes (items : List Item) (c c′ : Controller) : Type 0 where
   pub same : observe items c ≡ observe items c′
   pub carry : AllCarry items c

@@ -4,8 +4,8 @@ use Prim.Native.Nat.{ℕ}
 use lib.ListN.{take, drop}
 
 -- Document 01, Jobs: "The out record begins with those and its rest stays", and so the destination: a lent buffer that begins with these
--- bytes. (Bytes for which it has no place are left out; that a job sends and hands up no more than fit is `fits`,
--- crates/noninterference/proofs/Fits.antt.)
+-- bytes. (Bytes for which it has no place are left out; that a job sends and hands up no more than fit is `always-fits`,
+-- crates/runs/proofs/Fits.antt.)
 unfoldable pub laid : List ℕ → List ℕ → List ℕ
 laid [] lent = lent
 laid (x ∷ xs) [] = []

@@ -6,14 +6,14 @@ use lib.Dec.{ltb}
 use lib.ListN.{length}
 use Rattle.driver.specs.Run.{Report, declines}
 use Rattle.notation.proofs.Cases.{split}
-use Rattle.perlovasta.specs.Job.{requestOf}
-use Rattle.requests.proofs.Places.{fresh-enabled-places}
+use Rattle.perlovasta.specs.Job.{requestReport}
+use Rattle.requests.proofs.FreshEnabled.{fresh-enabled-places}
 use Rattle.requests.specs.Jobs.{freshEnabled, jobFor}
 use Rattle.runs.proofs.Fits.{always-fits}
 
 pub few-sent : (kind address n : ℕ) (payload : List ℕ) (room places : ℕ) (script : List ℕ) →
-    length ((requestOf kind address n payload room places script) .sent) ≤ 69
-unfolding requestOf declines
+    length ((requestReport kind address n payload room places script) .sent) ≤ 69
+unfolding requestReport declines
 few-sent kind address n payload room places script =
     split (λ (r : Report). length (r .sent) ≤ 69) (ltb 1 kind) _ _ (λ _. omega arith)
     (λ _. always-fits (jobFor kind address n) payload room places script freshEnabled fresh-enabled-places .few)

@@ -16,8 +16,8 @@ pub record JobCall : Type 0 where
   pub told : List ℕ
 
 -- kind, address, n; data; the lengths of destination and out record; script. "of another kind is 21"
-unfoldable pub requestOf : ℕ → ℕ → ℕ → List ℕ → ℕ → ℕ → List ℕ → Report
-requestOf kind address n payload destinationLength outLength script =
+unfoldable pub requestReport : ℕ → ℕ → ℕ → List ℕ → ℕ → ℕ → List ℕ → Report
+requestReport kind address n payload destinationLength outLength script =
     if ltb 1 kind then declines freshEnabled 21
     else jobOf (jobFor kind address n) payload destinationLength outLength script freshEnabled
 
@@ -28,4 +28,4 @@ tells r = record { done = true; handed = r .handed; sent = r .sent; told = repor
 unfoldable pub jobCall : ℕ → ℕ → ℕ → List ℕ → ℕ → ℕ → List ℕ → ℕ → JobCall
 jobCall kind address n payload destinationLength outLength script reportLength =
     if ltb reportLength 12 then record { done = false; handed = []; sent = []; told = [] }
-    else tells (requestOf kind address n payload destinationLength outLength script)
+    else tells (requestReport kind address n payload destinationLength outLength script)

@@ -8,7 +8,7 @@ ghost use mathlib.Core.Path.{_≡_};
 ghost use lib.ListN.{length};
 ghost use Rattle.driver.specs.Run.{resultOf};
 ghost use Rattle.notation.specs.Overlay.{laid};
-ghost use Rattle.perlovasta.specs.Job.{requestOf};
+ghost use Rattle.perlovasta.specs.Job.{requestReport};
 
 // Runs it; of another kind it is answered 21.
 pub(crate) fn run_request(
@@ -20,10 +20,10 @@ pub(crate) fn run_request(
     out: &mut [u8],
     script: &[u8],
 ) -> JobResult
-    ensures result { λ r. ⌜ resultOf r ≡ (requestOf kind address n (now (payload .entry)) (length (now (destination .entry))) (length (now (out .entry))) (now (script .entry))) .result ⌝ }
-    ensures handed { λ _. ⌜ now (destination .exit) ≡ laid ((requestOf kind address n (now (payload .entry)) (length (now (destination .entry))) (length (now (out .entry))) (now (script .entry))) .handed) (now (destination .entry)) ⌝ }
-    ensures sent { λ _. ⌜ now (out .exit) ≡ laid ((requestOf kind address n (now (payload .entry)) (length (now (destination .entry))) (length (now (out .entry))) (now (script .entry))) .sent) (now (out .entry)) ⌝ }
-    ensures number { λ r. ⌜ r .sent ≡ length ((requestOf kind address n (now (payload .entry)) (length (now (destination .entry))) (length (now (out .entry))) (now (script .entry))) .sent) ⌝ }
+    ensures result { λ r. ⌜ resultOf r ≡ (requestReport kind address n (now (payload .entry)) (length (now (destination .entry))) (length (now (out .entry))) (now (script .entry))) .result ⌝ }
+    ensures handed { λ _. ⌜ now (destination .exit) ≡ laid ((requestReport kind address n (now (payload .entry)) (length (now (destination .entry))) (length (now (out .entry))) (now (script .entry))) .handed) (now (destination .entry)) ⌝ }
+    ensures sent { λ _. ⌜ now (out .exit) ≡ laid ((requestReport kind address n (now (payload .entry)) (length (now (destination .entry))) (length (now (out .entry))) (now (script .entry))) .sent) (now (out .entry)) ⌝ }
+    ensures number { λ r. ⌜ r .sent ≡ length ((requestReport kind address n (now (payload .entry)) (length (now (destination .entry))) (length (now (out .entry))) (now (script .entry))) .sent) ⌝ }
 {
     let controller = fresh_enabled();
     let strange = 1 < kind;

@@ -1,2 +1,2 @@
 -- Laws of what requests run on.
-pub mod Places
+pub mod FreshEnabled

@@ -9,7 +9,7 @@ use Rattle.controller.specs.declared.record.Controller.{Controller}
 use Rattle.service.specs.declared.job.Job.{Job}
 use Rattle.notation.specs.Choice.{if_then_else_}
 
--- "a fresh controller freshEnabled by 40h"
+-- "a fresh controller enabled by 40h"
 abbrev pub freshEnabled : Controller
 freshEnabled = (writeOf fresh 3 0x40) .next
 

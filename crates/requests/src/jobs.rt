@@ -6,7 +6,7 @@ use service::job::Job;
 ghost use mathlib.Core.Path.{_≡_};
 ghost use Rattle.requests.specs.Jobs.{freshEnabled, directionFor, jobFor};
 
-// A fresh controller, freshEnabled by 40h.
+// A fresh controller, enabled by 40h.
 pub fn fresh_enabled() -> Controller
     ensures { λ r. ⌜ r ≡ freshEnabled ⌝ }
 {

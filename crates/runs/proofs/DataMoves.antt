@@ -56,7 +56,7 @@ load-all (x ∷ xs) c s w h l =
           append-snoc (take (c .hand) (c .buffer)) x xs;
     })
 
--- q is p with as many bytes read from I2CDAT, noted at place i and those after it
+-- q is p with so many bytes read from I2CDAT, noted at place i and those after it
 pub record Fetched (more i : ℕ) (p q : Progress) : Type 0 where
   pub turn : q .controller .turn ≡ p .controller .turn
   pub registers : q .controller .registers ≡ p .controller .registers

@@ -18,7 +18,7 @@ use Rattle.notation.proofs.Cases.{split}
 use Rattle.notation.specs.Choice.{if_then_else_}
 use Rattle.runs.proofs.Invariant.{In, Good, Stepped, ended}
 use Rattle.runs.proofs.Lines.{Line, lostWork, faultWork}
-use Rattle.runs.proofs.Step.{Step, refusing, hosting, broken, no-match}
+use Rattle.runs.proofs.Step.{KeepsOrEnds, refusing, hosting, broken, no-match}
 use Rattle.service.specs.Act.{doesAll, follows, performs}
 use Rattle.service.specs.Serve.{Table, serve}
 use Rattle.service.specs.declared.job.Job.{Job}
@@ -38,7 +38,7 @@ module _ {job : Job} {payload carried : List ℕ} {sent : ℕ} {p : Progress} (g
 
 module _ (table : Table) {job : Job} {payload carried : List ℕ} {sent : ℕ} {p : Progress} (g : Good job payload carried sent p) where
   abbrev S : ℕ → ℕ → Outcome → Type 0
-  S number argument o = Step table job payload carried sent p number argument o
+  S number argument o = KeepsOrEnds table job payload carried sent p number argument o
 
   -- 14: the reset
   pub reset-pin : (argument : ℕ) → S 14 argument (accepts (reset (p .controller)) 0)

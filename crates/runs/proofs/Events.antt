@@ -21,7 +21,7 @@ use Rattle.runs.proofs.Invariant.{Good, Stepped}
 use Rattle.runs.proofs.Lines.{JobLines}
 use Rattle.runs.proofs.Receiving.{byte-in}
 use Rattle.runs.proofs.Sending.{direction, address-out, data-out}
-use Rattle.runs.proofs.Step.{Step, refusing, here}
+use Rattle.runs.proofs.Step.{KeepsOrEnds, refusing, here}
 use Rattle.runs.proofs.Waiting.{other-start, other-stop, address-byte, illegal-edge, own-start, idle-time}
 use Rattle.service.proofs.Formed.{Formed}
 use Rattle.service.specs.Serve.{Table, serve}
@@ -31,7 +31,7 @@ use Rattle.service.specs.declared.progress.Progress.{Progress}
 module _ (table : Table) {room places : ℕ} {job : Job} (payload : List ℕ) (form : Formed job (length payload) room places)
     (lines : JobLines table job payload) {carried : List ℕ} {sent : ℕ} {p : Progress} (g : Good job payload carried sent p) where
   abbrev S : ℕ → ℕ → Outcome → Type 0
-  S number argument o = Step table job payload carried sent p number argument o
+  S number argument o = KeepsOrEnds table job payload carried sent p number argument o
 
   -- 6: a byte out
   byte-out : (argument : ℕ) → S 6 argument (byteOut (p .controller) argument)

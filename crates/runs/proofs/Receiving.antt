@@ -26,7 +26,7 @@ use Rattle.runs.proofs.Invariant.{In, count-top, below-count, Good, Ste
 use Rattle.runs.proofs.Lines.{Line, receivedWork, readBack, reads-and-stops}
 use Rattle.runs.proofs.Sending.{byte-count, hosted-whole}
 use Rattle.runs.proofs.Starts.{stops-good}
-use Rattle.runs.proofs.Step.{Step, hosted, refusing, hosting, idling, here, regood}
+use Rattle.runs.proofs.Step.{KeepsOrEnds, hosted, refusing, hosting, idling, here, regood}
 use Rattle.service.proofs.Formed.{Formed}
 use Rattle.service.specs.Act.{readTimes}
 use Rattle.service.specs.Progress.{withNotedCount}
@@ -80,7 +80,7 @@ module _ {room places : ℕ} {job : Job} (payload : List ℕ) (form : Formed job
 module _ (table : Table) {room places : ℕ} {job : Job} (payload : List ℕ) (form : Formed job (length payload) room places)
     {carried : List ℕ} {sent : ℕ} {p : Progress} (g : Good job payload carried sent p) where
   abbrev S : ℕ → ℕ → Outcome → Type 0
-  S number argument o = Step table job payload carried sent p number argument o
+  S number argument o = KeepsOrEnds table job payload carried sent p number argument o
 
   module _ (t : In p (receive ∷ [])) where
     data-more : (argument : ℕ) → S 7 argument (accepts (received (p .controller) argument) 0)

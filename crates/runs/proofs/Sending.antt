@@ -34,7 +34,7 @@ use Rattle.runs.proofs.Invariant.{In, earlyTurns, write-no-read, count-
 use Rattle.runs.proofs.Lines.{Line, dataWork, receiveWork, nackedWork, sentWork, dataNackedWork}
 use Rattle.runs.proofs.Lines.{loads, receives, counts-and-stops, pointsBack, finds-and-stops}
 use Rattle.runs.proofs.Starts.{stops-good, sends-good, receives-good}
-use Rattle.runs.proofs.Step.{Step, hosted, hosting, idling, regood}
+use Rattle.runs.proofs.Step.{KeepsOrEnds, hosted, hosting, idling, regood}
 use Rattle.service.proofs.Formed.{Formed}
 use Rattle.service.specs.Act.{put}
 use Rattle.service.specs.Progress.{withRecord}
@@ -89,7 +89,7 @@ module _ {job : Job} {payload carried : List ℕ} {sent : ℕ} {p : Progress} (g
 module _ (table : Table) {room places : ℕ} {job : Job} (payload : List ℕ) (form : Formed job (length payload) room places)
     {carried : List ℕ} {sent : ℕ} {p : Progress} (g : Good job payload carried sent p) where
   abbrev S : ℕ → ℕ → Outcome → Type 0
-  S number argument o = Step table job payload carried sent p number argument o
+  S number argument o = KeepsOrEnds table job payload carried sent p number argument o
 
   -- the record and the notes at a status
   at-host : (status : ℕ) → sound (hosted (p .controller) status) ≡ true → Whole job payload (taking p (hosted (p .controller) status))

@@ -31,7 +31,7 @@ use Rattle.service.specs.declared.job.Job.{Job}
 use Rattle.service.specs.declared.progress.Progress.{Progress}
 
 -- an accepted event keeps the invariant or ends the job
-pub record Step (table : Table) (job : Job) (payload carried : List ℕ) (sent : ℕ) (p : Progress) (number argument : ℕ) (o : Outcome) : Type 0 where
+pub record KeepsOrEnds (table : Table) (job : Job) (payload carried : List ℕ) (sent : ℕ) (p : Progress) (number argument : ℕ) (o : Outcome) : Type 0 where
   pub step : sound (o .next) ≡ true → o .refused ≡ 0 →
       Stepped job payload carried sent number argument (serve table number (taking p (o .next)))
 
@@ -50,7 +50,7 @@ serve-status table p d number h k s =
 
 module _ (table : Table) {job : Job} {payload carried : List ℕ} {sent : ℕ} {p : Progress} (g : Good job payload carried sent p) where
   abbrev S : ℕ → ℕ → Outcome → Type 0
-  S number argument o = Step table job payload carried sent p number argument o
+  S number argument o = KeepsOrEnds table job payload carried sent p number argument o
 
   pub refusing : (number argument k : ℕ) → S number argument (refuses (p .controller) (suc k))
   unfolding refuses

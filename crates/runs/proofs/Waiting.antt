@@ -31,7 +31,7 @@ use Rattle.runs.proofs.DataMoves.{put-sound}
 use Rattle.runs.proofs.Ends.{at-fault}
 use Rattle.runs.proofs.Invariant.{In, waitingTurns, earlyTurns, Good, Stepped, going, good-waiting, good-addressing}
 use Rattle.runs.proofs.Lines.{Line, addressWork, faultWork, addresses}
-use Rattle.runs.proofs.Step.{Step, hosted, refusing, hosting, idling, here, keep, early-good, no-match}
+use Rattle.runs.proofs.Step.{KeepsOrEnds, hosted, refusing, hosting, idling, here, keep, early-good, no-match}
 use Rattle.service.specs.Act.{put}
 use Rattle.service.specs.Progress.{withRecord}
 use Rattle.service.specs.Serve.{Table}
@@ -78,7 +78,7 @@ module _ {job : Job} {payload carried : List ℕ} {sent : ℕ} {p : Progress} (g
 
 module _ (table : Table) {job : Job} {payload carried : List ℕ} {sent : ℕ} {p : Progress} (g : Good job payload carried sent p) where
   abbrev S : ℕ → ℕ → Outcome → Type 0
-  S number argument o = Step table job payload carried sent p number argument o
+  S number argument o = KeepsOrEnds table job payload carried sent p number argument o
 
   waiting : (number argument : ℕ) (t : Turn) (value : ℕ) → eqb number 14 ≡ false → eqb number 4 ≡ false → eqb number 7 ≡ false →
       eqb number 6 ≡ false → In p waitingTurns → among (kind t) waitingTurns ≡ true → S number argument (waitsFor (p .controller) t value)

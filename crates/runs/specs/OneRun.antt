@@ -1,5 +1,6 @@
 -- Laws of one run of a job, whatever the job, script and record (its buffer is a list here, so that it has 68 places is said). These are
--- the statements; `always-fits`, `one-byte-each` and `hands-up-so-many`, each in the file of its name in proofs/, say that they hold.
+-- the statements; `always-fits` (proofs/Fits.antt), `one-byte-each` (proofs/OneByteEach.antt) and `hands-up-so-many`
+-- (proofs/HandsUpSoMany.antt) say that they hold. `carried` is for demand 3.
 use mathlib.Core.List.{List, [], _∷_}
 use mathlib.Core.Path.{_≡_}
 use Prim.Native.Nat.{ℕ, zero, suc, _+_, _≤_}
@@ -22,7 +23,7 @@ abbrev pub AlwaysFits : Type 0
 AlwaysFits = (job : Job) (payload : List ℕ) (destinationLength outLength : ℕ) (script : List ℕ) (c : Controller) →
     length (c .buffer) ≡ 68 → Fits destinationLength outLength (jobOf job payload destinationLength outLength script c)
 
--- event 6 among the first so many pairs
+-- how many of the first so many pairs are event 6
 unfoldable pub sentCount : ℕ → List ℕ → ℕ
 sentCount zero script = 0
 sentCount (suc events) [] = 0

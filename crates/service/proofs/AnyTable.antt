@@ -70,9 +70,9 @@ serve-events table event p =
     either _ _ _ _ refl (either _ _ _ _ refl (either _ _ _ _ refl (follows-events (w .after) _ ∙ all-events (w .acts) p)))
 
 -- where the driver has no work it leaves all as it is
-pub waits : (table : Table) (event : ℕ) (p : Progress) → hasWork event (p .controller) ≡ false → serve table event p ≡ p
+pub no-work-stays : (table : Table) (event : ℕ) (p : Progress) → hasWork event (p .controller) ≡ false → serve table event p ≡ p
 unfolding serve hasWork
-waits table event p h =
+no-work-stays table event p h =
     let later = or-right-off (eqb event 14) _ h in
     if-false _ _ _ (or-left-off (eqb event 14) _ h)
     ∙ if-false _ _ _ (or-left-off (eqb event 4) _ later)

@@ -16,7 +16,7 @@ use Rattle.service.specs.declared.progress.Progress.{Progress}
 pub data Act : Type 0 where
   -- a register is written
   writes : (register value : ℕ) → Act
-  -- I2CDAT is read, its byte noted at this place
+  -- I2CDAT is read, its byte noted at this place (no line of the job's table does; a chip without a buffer, document 02, will want it)
   readsData : (at : ℕ) → Act
   -- I2CDAT is read as often as the count noted says, the bytes noted at place 0 and those after it
   readsAll : Act
@@ -44,7 +44,7 @@ pub record Work : Type 0 where
 unfoldable pub put : Controller → ℕ → ℕ → Controller
 put c register value = (writeOf c register value) .next
 
--- what a register reads
+-- what a register reads. (A read of register 0 changes nothing, so the record before it is kept.)
 unfoldable pub reads : Controller → ℕ → ℕ
 reads c register = (readOf c register) .value
 
@@ -52,7 +52,7 @@ reads c register = (readOf c register) .value
 unfoldable pub fetchOne : ℕ → Progress → Progress
 fetchOne i p = withFetched (withRecord p ((readOf (p .controller) 1) .next)) (set (p .fetched) i (reads (p .controller) 1))
 
--- as many bytes read from I2CDAT, noted at place i and those after it
+-- so many bytes read from I2CDAT, noted at place i and those after it
 unfoldable pub fetch : ℕ → ℕ → Progress → Progress
 fetch zero i p = p
 fetch (suc more) i p = fetch more (i + 1) (fetchOne i p)

@@ -12,7 +12,7 @@ ghost use Rattle.service.specs.Progress.{withRecord};
 
 impl Progress {
     // Accesses led to this record.
-    pub(crate) fn go_on(mut self, c: Controller) -> Progress
+    pub(crate) fn with_record(mut self, c: Controller) -> Progress
         ensures { λ r. ⌜ r ≡ withRecord self c ⌝ }
     {
         self.controller = c;
@@ -20,7 +20,7 @@ impl Progress {
     }
 
     // This count is noted.
-    pub(crate) fn counted(mut self, count: u8) -> Progress
+    pub(crate) fn note_count(mut self, count: u8) -> Progress
         ensures { λ r. ⌜ r ≡ does (counts count) self ⌝ }
     {
         self.count = count;
@@ -45,9 +45,9 @@ impl Progress {
         ensures { λ r. ⌜ r ≡ doesAll findsMoved self ⌝ }
     {
         let c = self.controller;
-        let p = self.go_on(put(c, 0, 0x07)).count_read();
+        let p = self.with_record(put(c, 0, 0x07)).count_read();
         let d = p.controller;
-        p.go_on(put(d, 0, 0x00))
+        p.with_record(put(d, 0, 0x00))
     }
 
     // I2CDAT is read as often as the count noted says, and at most 68 times.
@@ -80,7 +80,7 @@ impl Progress {
         }
     }
 
-    // The job ends at once.
+    // The job ends at once, with this answer and count 0.
     pub fn end(self, ending: Ending) -> Progress
         ensures { λ r. ⌜ r ≡ follows (ends ending) self ⌝ }
     {

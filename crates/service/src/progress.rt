@@ -21,7 +21,7 @@ pub struct Progress {
 
 impl Progress {
     // A job begins with this record: nothing read back, no pair taken.
-    pub(crate) fn start(c: Controller) -> Progress
+    pub(crate) fn starting(c: Controller) -> Progress
         ensures { λ r. ⌜ r ≡ starting c ⌝ }
     {
         let ending = Ending::Unfinished;

@@ -15,10 +15,10 @@ ghost use Rattle.service.specs.Serve.{starts, hasWork, serve as serves};
 pub fn start(job: Job, c: Controller) -> Progress
     ensures { λ r. ⌜ r ≡ starts (begins job) c ⌝ }
 {
-    Progress::start(begin(job, c))
+    Progress::starting(begin(job, c))
 }
 
-// The driver has work after this event: it is not waiting through it at F8h.
+// There is work after this event: it ends the job (14, or own STOP), or the status is not F8h.
 pub fn has_work(event: u8, c: Controller) -> bool
     ensures { λ r. ⌜ r ≡ hasWork event c ⌝ }
 {

@@ -63,14 +63,14 @@ pub(crate) fn work_at(job: Job, payload: &[u8], status: u8, p: Progress) -> Prog
 {
     let c = p.controller;
     match status {
-        0x08 => p.go_on(send_address(job, c)),
-        0x18 => p.go_on(send_data(job, payload, c)),
-        0x40 => p.go_on(put(c, 3, 0x41)),
-        0x20 | 0x48 => p.counted(0).stop(Ending::AddressNacked),
-        0x28 => p.counted(job.n).stop(Ending::Done),
+        0x08 => p.with_record(send_address(job, c)),
+        0x18 => p.with_record(send_data(job, payload, c)),
+        0x40 => p.with_record(put(c, 3, 0x41)),
+        0x20 | 0x48 => p.note_count(0).stop(Ending::AddressNacked),
+        0x28 => p.note_count(job.n).stop(Ending::Done),
         0x30 => p.find_moved().stop(Ending::DataNacked),
-        0x58 => p.counted(job.n).read_all().stop(Ending::Done),
-        0x38 => p.go_on(put(c, 3, 0x40)).end(Ending::Lost),
+        0x58 => p.note_count(job.n).read_all().stop(Ending::Done),
+        0x38 => p.with_record(put(c, 3, 0x40)).end(Ending::Lost),
         0x00 | 0x70 | 0x78 => p.end(Ending::Fault),
         _ => p,
     }

@@ -11,14 +11,15 @@ use denote.Ref.{now}
 use Rattle.answer.specs.Refusal.{refusalOf, valueOf}
 use Rattle.answer.specs.declared.Answer.the-variants.{Accepted}
 use Rattle.answer.specs.declared.ending.Ending.the-variants.{Unfinished, Refused}
+use Rattle.answer.specs.declared.ending.Ending.{Ending}
 use Rattle.controller.specs.Reply.{outcomeOf, accepts}
 use Rattle.controller.specs.Setters.{withBuffer}
 use Rattle.controller.specs.Transfer.{counted}
 use Rattle.controller.specs.declared.reply.Reply.{Reply}
 use Rattle.driver.specs.FastPath.{midMoveNext, midMoveValue}
-use Rattle.driver.specs.Run.{run, closes, taking}
-use Rattle.notation.specs.Overlay.{laidAt}
-use Rattle.service.proofs.AnyTable.{serve-events, waits}
+use Rattle.driver.specs.Run.{Run, run, closes, taking}
+use Rattle.notation.specs.Overlay.{laid, laidAt}
+use Rattle.service.proofs.AnyTable.{serve-events, no-work-stays}
 use Rattle.service.specs.Act.{ends, follows}
 use Rattle.service.specs.JobTable.{jobTable}
 use Rattle.service.specs.Progress.{reaching}
@@ -105,7 +106,7 @@ loop-again c =
     let reply : Reply = record { controller = midMoveNext number argument (l .c); answer = Accepted (midMoveValue number (l .c)) } in
     let taken = taking p (midMoveNext number argument (l .c)) in
     let stored = ap (λ (buffer : List ℕ). reaching (l .p) (counted (withBuffer (l .c) buffer)) (l .events + 1)) (pass .0) in
-    let idle = sym (waits table number taken (m .waiting)) in
+    let idle = sym (no-work-stays table number taken (m .waiting)) in
     let pair = on table p script (l .i) more reply (sym (m .given)) _ refl taken idle (l .inv .4) stored in (
       omega (arith, more),
       omega (arith, l .inv .1),
@@ -166,7 +167,7 @@ loop-again-2 c =
     let accepted = c .before .before .before .before .before .before .before .before .before .before .before .before .answer2 .given .1 in
     let taken = taking p (event .result .controller) in
     let q = c .before .before .serve .result in
-    let served = c .before .before .serve .ensures ∙ ap (λ (t : Progress). serve table number t) (c .before .before .before .reach3 .ensures) in
+    let served = c .before .before .serve .ensures ∙ ap (λ (t : Progress). serve table number t) (c .before .before .before .reach .ensures) in
     let events = ap (λ (t : Progress). t .events) served ∙ serve-events table number taken in
     let lasts = c .if4 .left in
     let pair = on table p script (l .i) more (event .result) (event .ensures) _ accepted q served lasts (reached q (l .events + 1) events) in (
@@ -205,7 +206,7 @@ loop-again-3 c =
     ) in
     let accepted = c .before .before .before .before .before .before .before .before .answer2 .given .1 in
     let taken = taking p (event .result .controller) in
-    let idle = sym (waits table number taken (sym (c .before .has-work .ensures) ∙ c .if3 .left)) in
+    let idle = sym (no-work-stays table number taken (sym (c .before .has-work .ensures) ∙ c .if3 .left)) in
     let pair = on table p script (l .i) more (event .result) (event .ensures) _ accepted taken idle (l .inv .4) refl in (
       omega (arith, more),
       omega (arith, l .inv .1),
@@ -215,39 +216,43 @@ loop-again-3 c =
       passes number _ pair (note .0) (note .1 .1) (l .inv .5),
     )
 
+-- the job ends at a pair, or for want of one
+cut : {left whole : Run} {at : ℕ} {out lent : List ℕ} (q p : Progress) (sent : ℕ) (e : Ending) → left ≡ closes (follows (ends e) p) →
+    q ≡ follows (ends e) p → sent ≡ at → Leads left whole at out lent →
+    ((closes q) .result ≡ whole .result) × ((q .fetched ≡ whole .fetched) × ((out ≡ laid (whole .sent) lent) × (sent ≡ length (whole .sent))))
+cut q p sent e run-ends q-is sent-is leads =
+    let all = ended q (run-ends ∙ ap closes (sym q-is)) leads in
+    (all .0, (all .1 .0, (all .1 .1 .0, sent-is ∙ all .1 .1 .1)))
+
 -- the script's end
 returns : tie.Need-returns Inv-loop μ-loop
 unfolding reaching
 returns c =
-    let l = c .before .before .before .loop in
-    let s = c .before .before .before .before .before .before .before .before in
+    let l = c .before .before .loop in
+    let s = c .before .before .before .before .before .before .before in
     let table = jobTable (s .args .job) (now (s .args .payload)) in
     let p = reaching (l .p) (l .c) (l .events) in
-    let stopped = c .end .ensures ∙ ap (λ (t : Progress). follows (ends Unfinished) t) (c .before .reach .ensures) in
-    ended (c .end .result) (runs-out table p (now (s .args .script)) (l .i) (c .before .before .if1 .taken) ∙ ap closes (sym stopped)) (l .inv .5)
+    let end = c .end-at .ensures in
+    cut _ p _ Unfinished (runs-out table p (now (s .args .script)) (l .i) (c .before .if1 .taken)) (end .0) (end .1) (l .inv .5)
 
 same-length-2 : tie.Need-same-length-2 Inv-loop μ-loop
-same-length-2 c = c .before .before .before .before .before .before .before .before .before .before .before .loop .inv .3
+same-length-2 c = c .before .before .before .before .before .before .before .before .before .before .loop .inv .3
 
 -- a refused event
 returns-2 : tie.Need-returns-2 Inv-loop μ-loop
 unfolding reaching
 returns-2 c =
-    let l = c .before .before .before .before .before .before .before .before .before .before .before .loop in
-    let s = c .before .before .before .before .before .before .before .before .before .before .before .before .before .before .before .before in
+    let l = c .before .before .before .before .before .before .before .before .before .before .loop in
+    let s = c .before .before .before .before .before .before .before .before .before .before .before .before .before .before .before in
     let table = jobTable (s .args .job) (now (s .args .payload)) in
     let script = now (s .args .script) in
     let p = reaching (l .p) (l .c) (l .events) in
-    let event = c .before .before .before .before .before .event in
-    let why = c .before .before .before .answer .given in
-    let more : l .i + 1 < length script = omega (
-      arith,
-      c .before .before .before .before .before .before .before .before .before
-          .before .if1 .left,
-    ) in
+    let event = c .before .before .before .before .event in
+    let why = c .before .before .answer .given in
+    let more : l .i + 1 < length script = omega (arith, c .before .before .before .before .before .before .before .before .before .if1 .left) in
     let refusal = refused table p script (l .i) more (event .result) (event .ensures) _ (why .1) in
-    let stopped = c .end2 .ensures ∙ ap (λ (t : Progress). follows (ends (Refused (why .0 .0))) t) (c .before .reach2 .ensures) in
-    ended (c .end2 .result) (refusal ∙ ap closes (sym stopped)) (l .inv .5)
+    let end = c .end-at2 .ensures in
+    cut _ p _ (Refused (why .0 .0)) refusal (end .0) (end .1) (l .inv .5)
 
 same-length-3 : tie.Need-same-length-3 Inv-loop μ-loop
 same-length-3 c = c .before .before .before .before .before .before .before .before .before .note .ensures .1 .0 ∙ c .before .before .before
@@ -275,7 +280,7 @@ returns-3 c =
     ) in
     let accepted = c .before .before .before .before .before .before .before .before .before .before .before .before .answer2 .given .1 in
     let q = c .before .before .serve .result in
-    let served = c .before .before .serve .ensures ∙ ap (λ (t : Progress). serve table number t) (c .before .before .before .reach3 .ensures) in
+    let served = c .before .before .serve .ensures ∙ ap (λ (t : Progress). serve table number t) (c .before .before .before .reach .ensures) in
     let pair = over table p script (l .i) more (event .result) (event .ensures) _ accepted q served (c .if4 .taken) in
     ended q refl (passes number _ pair (note .0) (note .1 .1) (l .inv .5))
 
@@ -287,7 +292,6 @@ run-pairs-spec =
     μ-loop
     loop-holds
     (λ c. search needs)
-    (λ c κs. search needs)
     (λ c κs. search needs)
     (λ c. search needs)
     (λ c. search needs)
@@ -301,7 +305,6 @@ run-pairs-spec =
     loop-again
     (λ c κs. search needs)
     (λ c. search needs)
-    (λ c κs. search needs)
     (λ c κs. search needs)
     (λ c. search needs)
     note-requires

@@ -11,7 +11,7 @@ use denote.Ref.{now}
 use Rattle.driver.specs.Run.{Result}
 use Rattle.notation.proofs.Cases.{if-true, if-false}
 use Rattle.notation.specs.Overlay.{laid}
-use Rattle.perlovasta.specs.Job.{JobCall, requestOf, tells, jobCall}
+use Rattle.perlovasta.specs.Job.{JobCall, requestReport, tells, jobCall}
 use Rattle.perlovasta.specs.ReportBytes.{reportBytes}
 use Rattle.perlovasta.proofs.Few.{few-sent}
 use Rattle.perlovasta.proofs.entry.perlovasta_job.Statement.{statement}
@@ -52,7 +52,7 @@ returns-2 c =
     let out = now (s .out) in
     let report = now (s .report) in
     let call = jobCall (s .kind) (s .address) (s .n) (now (s .payload)) (length destination) (length out) (now (s .script)) (length report) in
-    let request = requestOf (s .kind) (s .address) (s .n) (now (s .payload)) (length destination) (length out) (now (s .script)) in
+    let request = requestReport (s .kind) (s .address) (s .n) (now (s .payload)) (length destination) (length out) (now (s .script)) in
     let e : call ≡ tells request = if-false _ _ _ (c .before .before .before .before .before .before .before .before .before .before
     .before .if1 .left) in
     let ran = c .before .before .before .before .before .before .before .before .run-request in (

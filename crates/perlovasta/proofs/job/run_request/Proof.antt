@@ -1,4 +1,4 @@
--- `run_request` is `requestOf`: what is known at each return settles its test, and `run_job` promises the rest.
+-- `run_request` is `requestReport`: what is known at each return settles its test, and `run_job` promises the rest.
 use mathlib.Core.Path.{_≡_, sym, ap, _∙_}
 use borrow.Author.Needs.{needs}
 use lib.ListN.{length}
@@ -9,17 +9,17 @@ use Rattle.notation.proofs.Cases.{if-true, if-false}
 use Rattle.notation.specs.Overlay.{laid}
 use Rattle.requests.specs.Jobs.{freshEnabled, jobFor}
 use Rattle.service.specs.declared.job.Job.{Job}
-use Rattle.perlovasta.specs.Job.{requestOf}
+use Rattle.perlovasta.specs.Job.{requestReport}
 use Rattle.perlovasta.proofs.job.run_request.Statement.{statement}
 use Rattle.perlovasta.proofs.job.run_request.Tie as tie
 
 returns : tie.Need-returns
-unfolding requestOf declines resultOf laid
+unfolding requestReport declines resultOf laid
 returns c =
     let s = c .before .before .before .before .before .before .args in
     let destination = now (s .destination) in
     let out = now (s .out) in
-    let report = requestOf (s .kind) (s .address) (s .n) (now (s .payload)) (length destination) (length out) (now (s .script)) in
+    let report = requestReport (s .kind) (s .address) (s .n) (now (s .payload)) (length destination) (length out) (now (s .script)) in
     let e : report ≡ declines freshEnabled 21 = if-true _ _ _ (c .if1 .taken) in (
       ap (λ (d : Controller). (declines d 21) .result) (c .before .fresh-enabled .ensures) ∙ sym (ap (λ (r : Report). r .result) e),
       (
@@ -29,14 +29,14 @@ returns c =
     )
 
 returns-2 : tie.Need-returns-2
-unfolding requestOf
+unfolding requestReport
 returns-2 c =
     let s = c .before .before .before .before .before .before .before .before .before .before .before .before .before .before .args in
     let payload = now (s .payload) in
     let destination = now (s .destination) in
     let out = now (s .out) in
     let script = now (s .script) in
-    let report = requestOf (s .kind) (s .address) (s .n) payload (length destination) (length out) script in
+    let report = requestReport (s .kind) (s .address) (s .n) payload (length destination) (length out) script in
     let asked = jobFor (s .kind) (s .address) (s .n) in
     let ran = c .before .before .before .before .run-job in
     let job = c .before .before .before .before .before .before .before .job-for in

@@ -10,7 +10,7 @@ use Rattle.service.proofs.serve.start.Tie as tie
 
 returns : tie.Need-returns
 unfolding starts doesAll does starting
-returns c = c .start .ensures ∙ ap (λ (d : Controller). starting d) (c .before .begin .ensures)
+returns c = c .starting .ensures ∙ ap (λ (d : Controller). starting d) (c .before .begin .ensures)
 
 pub start-spec : {M : Type 1} → statement M
 start-spec = tie.close (tie.spec (λ c κs. search needs) (λ c κs. search needs) returns)

@@ -36,31 +36,31 @@ fault job payload status count (inr (inr e)) = rw e
 
 returns : tie.Need-returns
 unfolding jobTable among if_then_else_ performs doesAll does follows
-returns c = rw (c .go-on .ensures, c .before .send-address .ensures, c .before .before .match .keys1)
+returns c = rw (c .with-record .ensures, c .before .send-address .ensures, c .before .before .match .keys1)
 
 returns-2 : tie.Need-returns-2
 unfolding jobTable among if_then_else_ performs doesAll does follows
 returns-2 c =
     let args = c .before .before .before .before .before .args in
-    rw (c .go-on2 .ensures, c .before .send-data .ensures, c .before .before .match .keys2)
+    rw (c .with-record2 .ensures, c .before .send-data .ensures, c .before .before .match .keys2)
     (sym (load-block (take (args .job .n) (now (args .payload))) (writes 3 0x41 ∷ []) (args .p)))
 
 returns-3 : tie.Need-returns-3
 unfolding jobTable among if_then_else_ performs doesAll does follows
-returns-3 c = rw (c .go-on3 .ensures, c .before .put .ensures, c .before .before .match .keys3)
+returns-3 c = rw (c .with-record3 .ensures, c .before .put .ensures, c .before .before .match .keys3)
 
 returns-4 : tie.Need-returns-4
 unfolding performs doesAll does follows
 returns-4 c =
     let args = c .before .before .before .before .before .args in
     c .stop .ensures
-    ∙ ap (performs (stopAfter [] AddressNacked)) (c .before .counted .ensures)
+    ∙ ap (performs (stopAfter [] AddressNacked)) (c .before .note-count .ensures)
     ∙ sym (ap (λ (w : Work). performs w (args .p))
     (nacked (args .job) (now (args .payload)) (args .status) (args .p .count) (c .before .before .match .keys4)))
 
 returns-5 : tie.Need-returns-5
 unfolding jobTable among if_then_else_ performs doesAll does follows
-returns-5 c = rw (c .stop2 .ensures, c .before .counted2 .ensures, c .before .before .match .keys5)
+returns-5 c = rw (c .stop2 .ensures, c .before .note-count2 .ensures, c .before .before .match .keys5)
 
 returns-6 : tie.Need-returns-6
 unfolding jobTable among if_then_else_ performs doesAll does follows
@@ -68,12 +68,12 @@ returns-6 c = rw (c .stop3 .ensures, c .before .find-moved .ensures, c .before .
 
 returns-7 : tie.Need-returns-7
 unfolding jobTable among if_then_else_ performs doesAll does follows
-returns-7 c = rw (c .stop4 .ensures, c .before .read-all .ensures, c .before .before .counted3 .ensures, c .before .before .before .match .keys7)
+returns-7 c = rw (c .stop4 .ensures, c .before .read-all .ensures, c .before .before .note-count3 .ensures, c .before .before .before .match .keys7)
 
 returns-8 : tie.Need-returns-8
 unfolding jobTable among if_then_else_ performs doesAll does follows
 returns-8 c =
-    rw (c .end .ensures, c .before .go-on4 .ensures, c .before .before .put2 .ensures, c .before .before .before .match .keys8)
+    rw (c .end .ensures, c .before .with-record4 .ensures, c .before .before .put2 .ensures, c .before .before .before .match .keys8)
 
 returns-9 : tie.Need-returns-9
 unfolding performs doesAll

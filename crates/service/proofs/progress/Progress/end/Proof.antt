@@ -1,4 +1,4 @@
--- `end` is `ends`, field by field.
+-- `end` is what follows on `ends`, field by field.
 use mathlib.Core.Path.{refl}
 use Rattle.service.specs.Act.{follows}
 use Rattle.service.proofs.progress.Progress.end.Statement.{statement}

@@ -1,3 +1,4 @@
+-- `find_moved` does the acts `findsMoved`, call by call.
 use Rattle.service.specs.Act.{does, doesAll}
 use borrow.Author.Needs.{needs}
 use Rattle.service.proofs.progress.Progress.find_moved.Statement.{statement}
@@ -7,7 +8,7 @@ returns : tie.Need-returns
 unfolding doesAll does
 returns c =
     let s = c .before .before .before in
-    rw (c .go-on2 .ensures, c .before .put2 .ensures, s .count-read .ensures, s .before .go-on .ensures, s .before .before .put .ensures)
+    rw (c .with-record2 .ensures, c .before .put2 .ensures, s .count-read .ensures, s .before .with-record .ensures, s .before .before .put .ensures)
 
 pub find-moved-spec : {M : Type 1} → statement M
 find-moved-spec =

@@ -1,4 +1,4 @@
--- `finish` is `finishes`, field by field.
+-- `finish` is what follows on `finishes`, field by field.
 use mathlib.Core.Path.{refl}
 use Rattle.service.specs.Act.{follows}
 use Rattle.service.proofs.progress.Progress.finish.Statement.{statement}

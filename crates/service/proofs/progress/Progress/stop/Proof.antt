@@ -1,4 +1,4 @@
--- `stop` is `stops`, field by field.
+-- `stop` is the work `stopAfter []`: 50h is written, and own STOP will give the answer.
 use borrow.Author.Needs.{needs}
 use Rattle.service.specs.Act.{performs, doesAll, does, follows}
 use Rattle.service.proofs.progress.Progress.stop.Statement.{statement}
