@@ -7,6 +7,7 @@ use Rattle.address.specs.Number.{bitOf}
 use Rattle.controller.specs.Event.{eventOf}
 use Rattle.controller.specs.declared.record.Controller.{Controller}
 use Rattle.answer.specs.Ending.{numberOf, besideOf}
+use Rattle.driver.specs.declared.result.Ended.{Ended}
 use Rattle.driver.specs.declared.result.JobResult.{JobResult}
 use Rattle.notation.specs.Choice.{if_then_else_, _and_}
 use Rattle.service.specs.JobSteps.{begins}
@@ -33,6 +34,26 @@ resultOf r = record {
   refused = besideOf (r .ending);
   count = r .count;
   events = r .events;
+}
+
+-- a run that is over, as the code has it: what was noted, and how many bytes were sent
+unfoldable pub endedOf : Progress → ℕ → Ended
+endedOf p sent = record {
+  controller = p .controller;
+  ending = p .ending;
+  count = p .count;
+  events = p .events;
+  sent = sent;
+  fetched = p .fetched;
+}
+
+unfoldable pub endedResult : Ended → Result
+endedResult e = record {
+  next = e .controller;
+  answer = numberOf (e .ending);
+  refused = besideOf (e .ending);
+  count = e .count;
+  events = e .events;
 }
 
 -- What a run over pairs gives: the result, the bytes read back, and the bytes sent from here on.

@@ -1,6 +1,6 @@
 // Handing up (document 01's term): the bytes of a finished read, written to the caller's destination.
+use crate::result::Ended;
 use service::job::Job;
-use service::progress::Progress;
 ghost use mathlib.Core.Path.{_≡_};
 ghost use Prim.Native.Nat.{_≤_};
 ghost use lib.ListN.{take};
@@ -24,17 +24,17 @@ fn copy_first(bytes: [u8; 68], n: usize, destination: &mut [u8])
 }
 
 // Answer 0 of a read: its n bytes are handed up. Any other job leaves the destination as it was.
-pub(crate) fn hand_up(job: Job, p: Progress, destination: &mut [u8])
+pub(crate) fn hand_up(job: Job, end: Ended, destination: &mut [u8])
     requires { ⌜ job .n ≤ 68 ⌝ }
-    ensures { λ _. ⌜ now (destination .exit) ≡ laid (handsUp job (numberOf (p .ending)) (p .fetched)) (now (destination .entry)) ⌝ }
+    ensures { λ _. ⌜ now (destination .exit) ≡ laid (handsUp job (numberOf (end .ending)) (end .fetched)) (now (destination .entry)) ⌝ }
 {
-    let ending = p.ending;
+    let ending = end.ending;
     let done = ending.number() == 0;
     if done {
         let direction = job.direction;
         let read = direction.bit() == 1;
         if read {
-            let fetched = p.fetched;
+            let fetched = end.fetched;
             copy_first(fetched, job.n as usize, destination);
         }
     }

@@ -55,9 +55,8 @@ pub fn run_job(
     }
     if is_ready(c) {
         let end = run_pairs(start(job, c), job, payload, out, script);
-        let p = end.progress;
-        hand_up(job, p, destination);
-        result_of(p, end.sent)
+        hand_up(job, end, destination);
+        result_of(end)
     } else {
         decline(c, Ending::NotReady)
     }

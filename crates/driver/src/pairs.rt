@@ -2,9 +2,11 @@
 use crate::fast_path::is_mid_move;
 use crate::fast_path::pass;
 use crate::out_record::note;
+use crate::result::Ended;
+use crate::result::end_at;
+use crate::result::end_with;
 use answer::Answer;
 use answer::ending::Ending;
-use controller::record::Controller;
 use service::job::Job;
 use service::progress::Progress;
 use service::serve::has_work;
@@ -12,26 +14,9 @@ use service::serve::serve;
 ghost use mathlib.Core.Bool.{false};
 ghost use mathlib.Core.Path.{_≡_};
 ghost use lib.ListN.{length};
-ghost use Rattle.driver.specs.Run.{closes, run};
+ghost use Rattle.driver.specs.Run.{endedResult, run};
 ghost use Rattle.notation.specs.Overlay.{laid};
-ghost use Rattle.service.specs.Act.{ends, follows};
 ghost use Rattle.service.specs.JobTable.{jobTable};
-ghost use Rattle.service.specs.Progress.{reaching};
-
-// A job that is over, and how many bytes it sent.
-pub(crate) struct Ended {
-    pub(crate) progress: Progress,
-    pub(crate) sent: usize,
-}
-
-// The job ends here, with this answer.
-fn end_at(p: Progress, c: Controller, events: usize, sent: usize, ending: Ending) -> Ended
-    ensures end { λ r. ⌜ r .progress ≡ follows (ends ending) (reaching p c events) ⌝ }
-    ensures sent { λ r. ⌜ r .sent ≡ sent ⌝ }
-{
-    let progress = p.reach(c, events).end(ending);
-    Ended { progress, sent }
-}
 
 // Takes pairs while the job lasts; what it breaks with is the end of the job. (The record and the number of pairs are
 // held beside the progress, and a pair in the middle of a buffered move changes the record in place, so that long moves copy nothing.)
@@ -43,8 +28,8 @@ pub(crate) fn run_pairs(
     script: &[u8],
 ) -> Ended
     requires { ⌜ (start .events ≡ 0) × (start .over ≡ false) ⌝ }
-    ensures result { λ r. ⌜ (closes (r .progress)) .result ≡ (run (jobTable job (now (payload .entry))) start (now (script .entry))) .result ⌝ }
-    ensures fetched { λ r. ⌜ r .progress .fetched ≡ (run (jobTable job (now (payload .entry))) start (now (script .entry))) .fetched ⌝ }
+    ensures result { λ r. ⌜ endedResult r ≡ (run (jobTable job (now (payload .entry))) start (now (script .entry))) .result ⌝ }
+    ensures fetched { λ r. ⌜ r .fetched ≡ (run (jobTable job (now (payload .entry))) start (now (script .entry))) .fetched ⌝ }
     ensures sent { λ _. ⌜ now (out .exit) ≡ laid ((run (jobTable job (now (payload .entry))) start (now (script .entry))) .sent) (now (out .entry)) ⌝ }
     ensures number { λ r. ⌜ r .sent ≡ length ((run (jobTable job (now (payload .entry))) start (now (script .entry))) .sent) ⌝ }
 {
@@ -79,7 +64,7 @@ pub(crate) fn run_pairs(
                     p = serve(job, payload, event, p.reach(c, events));
                     c = p.controller;
                     if p.over {
-                        break Ended { progress: p, sent };
+                        break end_with(p, sent);
                     }
                 }
             }

@@ -6,7 +6,7 @@ use borrow.Author.Needs.{needs}
 use lib.ListN.{length}
 use denote.Ref.{now}
 use Rattle.controller.specs.declared.record.Controller.{Controller}
-use Rattle.driver.specs.Run.{Run, Report, Result, resultOf, closes, run, handsUp, reports, declines, jobOf}
+use Rattle.driver.specs.Run.{Run, Report, Result, resultOf, endedResult, run, handsUp, reports, declines, jobOf}
 use Rattle.driver.specs.declared.result.JobResult.{JobResult}
 use Rattle.notation.proofs.Cases.{if-true, if-false}
 use Rattle.notation.specs.Overlay.{laid}
@@ -48,38 +48,33 @@ run-pairs-requires c κs =
     (ap (λ (p : Progress). p .events) begun, ap (λ (p : Progress). p .over) begun)
 
 hand-up-requires : tie.Need-hand-up-requires
-hand-up-requires c κs = formed _ _ _ _ _ (sym (c .before .before .before .before .before .before .before .before .before
-    .before .is-malformed .ensures) ∙ c .before .before .before .before .before .before .before .before .before .if1 .left) .high
+hand-up-requires c κs = formed _ _ _ _ _ (sym (c .before .before .before .before .before .before .before .before .before .is-malformed .ensures) ∙ c .before .before .before .before .before .before .before .before .if1 .left) .high
 
 returns-2 : tie.Need-returns-2
-unfolding jobOf reports closes
+unfolding jobOf reports endedResult
 returns-2 c =
-    let s = c .before .before .before .before .before .before .before .before .before .before .before .before .before .before .before .before
-    .before .before .before .args in
+    let s = c .before .before .before .before .before .before .before .before .before .before .before .before .before .before .before .before .before .before .args in
     let job = s .job in
     let destination = now (s .destination) in
     let out = now (s .out) in
     let script = now (s .script) in
     let table = jobTable job (now (s .payload)) in
     let report = jobOf job (now (s .payload)) (length destination) (length out) script (s .c) in
-    let begin = c .before .before .before .before .before .before .before .before .before .before .start in
-    let worked = c .before .before .before .before .before .before .before .before .run-pairs in
+    let begin = c .before .before .before .before .before .before .before .before .before .start in
+    let worked = c .before .before .before .before .before .before .before .run-pairs in
     let whole = run table (starts (begins job) (s .c)) script in
     let begun : run table (begin .result) script ≡ whole = ap (λ (p : Progress). run table p script) (begin .ensures) in
-    let well = sym (c .before .before .before .before .before .before .before .before .before .before .before .before .before
-    .before .is-malformed .ensures) ∙ c .before .before .before .before .before .before .before .before .before .before .before .before
-    .before .if1 .left in
-    let able = sym (c .before .before .before .before .before .before .before .before .before .before .before .before .is-ready .ensures) ∙ c
-    .before .before .before .before .before .before .before .before .before .before .before .if2 .taken in
+    let well = sym (c .before .before .before .before .before .before .before .before .before .before .before .before .before .is-malformed .ensures) ∙ c .before .before .before .before .before .before .before .before .before .before .before .before .if1 .left in
+    let able = sym (c .before .before .before .before .before .before .before .before .before .before .before .is-ready .ensures) ∙ c .before .before .before .before .before .before .before .before .before .before .if2 .taken in
     let e : report ≡ reports job whole = if-false _ _ _ well ∙ if-true _ _ _ able in
-    let p = worked .result .progress in
-    let result : (closes p) .result ≡ whole .result = worked .ensures .0 ∙ ap (λ (r : Run). r .result) begun in
-    let fetched : p .fetched ≡ whole .fetched = worked .ensures .1 .0 ∙ ap (λ (r : Run). r .fetched) begun in
+    let end = worked .result in
+    let result : endedResult end ≡ whole .result = worked .ensures .0 ∙ ap (λ (r : Run). r .result) begun in
+    let fetched : end .fetched ≡ whole .fetched = worked .ensures .1 .0 ∙ ap (λ (r : Run). r .fetched) begun in
     let sent = worked .ensures .1 .1 in (
       c .result-of .ensures .0 ∙ result ∙ sym (ap (λ (r : Report). r .result) e),
       (
         c .before .before .before .hand-up .ensures
-            ∙ ap (λ (r : Result). laid (handsUp job (r .answer) (p .fetched)) destination) result
+            ∙ ap (λ (r : Result). laid (handsUp job (r .answer) (end .fetched)) destination) result
             ∙ ap (λ (l : List ℕ). laid (handsUp job (whole .result .answer) l) destination) fetched
             ∙ sym (ap (λ (r : Report). laid (r .handed) destination) e),
         (

@@ -11,13 +11,13 @@ use denote.Ref.{now}
 use Rattle.answer.specs.Refusal.{refusalOf, valueOf}
 use Rattle.answer.specs.declared.Answer.the-variants.{Accepted}
 use Rattle.answer.specs.declared.ending.Ending.the-variants.{Unfinished, Refused}
-use Rattle.answer.specs.declared.ending.Ending.{Ending}
 use Rattle.controller.specs.Reply.{outcomeOf, accepts}
 use Rattle.controller.specs.Setters.{withBuffer}
 use Rattle.controller.specs.Transfer.{counted}
 use Rattle.controller.specs.declared.reply.Reply.{Reply}
 use Rattle.driver.specs.FastPath.{midMoveNext, midMoveValue}
-use Rattle.driver.specs.Run.{Run, run, closes, taking}
+use Rattle.driver.specs.Run.{Run, endedOf, endedResult, run, closes, taking}
+use Rattle.driver.specs.declared.result.Ended.{Ended}
 use Rattle.notation.specs.Overlay.{laid, laidAt}
 use Rattle.service.proofs.AnyTable.{serve-events, no-work-stays}
 use Rattle.service.specs.Act.{ends, follows}
@@ -216,13 +216,19 @@ loop-again-3 c =
       passes number _ pair (note .0) (note .1 .1) (l .inv .5),
     )
 
--- the job ends at a pair, or for want of one
-cut : {left whole : Run} {at : ℕ} {out lent : List ℕ} (q p : Progress) (sent : ℕ) (e : Ending) → left ≡ closes (follows (ends e) p) →
-    q ≡ follows (ends e) p → sent ≡ at → Leads left whole at out lent →
-    ((closes q) .result ≡ whole .result) × ((q .fetched ≡ whole .fetched) × ((out ≡ laid (whole .sent) lent) × (sent ≡ length (whole .sent))))
-cut q p sent e run-ends q-is sent-is leads =
-    let all = ended q (run-ends ∙ ap closes (sym q-is)) leads in
-    (all .0, (all .1 .0, (all .1 .1 .0, sent-is ∙ all .1 .1 .1)))
+-- the run is over with q, and so many bytes sent
+over-with : {left whole : Run} {at : ℕ} {out lent : List ℕ} (r : Ended) (q : Progress) → left ≡ closes q → r ≡ endedOf q at →
+    Leads left whole at out lent →
+    (endedResult r ≡ whole .result) × ((r .fetched ≡ whole .fetched) × ((out ≡ laid (whole .sent) lent) × (r .sent ≡ length (whole .sent))))
+unfolding endedOf endedResult closes
+over-with r q run-ends is leads =
+    let all = ended q run-ends leads in (
+      ap endedResult is ∙ all .0,
+      (
+        ap (λ (e : Ended). e .fetched) is ∙ all .1 .0,
+        (all .1 .1 .0, ap (λ (e : Ended). e .sent) is ∙ all .1 .1 .1),
+      ),
+    )
 
 -- the script's end
 returns : tie.Need-returns Inv-loop μ-loop
@@ -232,8 +238,8 @@ returns c =
     let s = c .before .before .before .before .before .before .before in
     let table = jobTable (s .args .job) (now (s .args .payload)) in
     let p = reaching (l .p) (l .c) (l .events) in
-    let end = c .end-at .ensures in
-    cut _ p _ Unfinished (runs-out table p (now (s .args .script)) (l .i) (c .before .if1 .taken)) (end .0) (end .1) (l .inv .5)
+    over-with (c .end-at .result) (follows (ends Unfinished) p)
+    (runs-out table p (now (s .args .script)) (l .i) (c .before .if1 .taken)) (c .end-at .ensures) (l .inv .5)
 
 same-length-2 : tie.Need-same-length-2 Inv-loop μ-loop
 same-length-2 c = c .before .before .before .before .before .before .before .before .before .before .loop .inv .3
@@ -251,11 +257,10 @@ returns-2 c =
     let why = c .before .before .answer .given in
     let more : l .i + 1 < length script = omega (arith, c .before .before .before .before .before .before .before .before .before .if1 .left) in
     let refusal = refused table p script (l .i) more (event .result) (event .ensures) _ (why .1) in
-    let end = c .end-at2 .ensures in
-    cut _ p _ (Refused (why .0 .0)) refusal (end .0) (end .1) (l .inv .5)
+    over-with (c .end-at2 .result) (follows (ends (Refused (why .0 .0))) p) refusal (c .end-at2 .ensures) (l .inv .5)
 
 same-length-3 : tie.Need-same-length-3 Inv-loop μ-loop
-same-length-3 c = c .before .before .before .before .before .before .before .before .before .note .ensures .1 .0 ∙ c .before .before .before
+same-length-3 c = c .before .before .before .before .before .before .before .before .before .before .note .ensures .1 .0 ∙ c .before .before .before .before
     .before .before .before .before .before .before .before .before .before .before .before .before .before .before .before .before
     .before .loop .inv .3
 
@@ -263,26 +268,26 @@ same-length-3 c = c .before .before .before .before .before .before .before .bef
 returns-3 : tie.Need-returns-3 Inv-loop μ-loop
 unfolding taking reaching
 returns-3 c =
-    let l = c .before .before .before .before .before .before .before .before .before .before .before .before .before .before .before .before
+    let l = c .before .before .before .before .before .before .before .before .before .before .before .before .before .before .before .before .before
     .before .before .before .before .loop in
-    let s = c .before .before .before .before .before .before .before .before .before .before .before .before .before .before .before .before
+    let s = c .before .before .before .before .before .before .before .before .before .before .before .before .before .before .before .before .before
     .before .before .before .before .before .before .before .before .before in
     let table = jobTable (s .args .job) (now (s .args .payload)) in
     let script = now (s .args .script) in
     let p = reaching (l .p) (l .c) (l .events) in
     let number = getD script (l .i) 0 in
-    let event = c .before .before .before .before .before .before .before .before .before .before .before .before .before .before .event in
-    let note = c .before .before .before .before .before .before .before .before .before .note .ensures in
+    let event = c .before .before .before .before .before .before .before .before .before .before .before .before .before .before .before .event in
+    let note = c .before .before .before .before .before .before .before .before .before .before .note .ensures in
     let more : l .i + 1 < length script = omega (
       arith,
-      c .before .before .before .before .before .before .before .before .before .before
+      c .before .before .before .before .before .before .before .before .before .before .before
           .before .before .before .before .before .before .before .before .before .if1 .left,
     ) in
-    let accepted = c .before .before .before .before .before .before .before .before .before .before .before .before .answer2 .given .1 in
-    let q = c .before .before .serve .result in
-    let served = c .before .before .serve .ensures ∙ ap (λ (t : Progress). serve table number t) (c .before .before .before .reach .ensures) in
-    let pair = over table p script (l .i) more (event .result) (event .ensures) _ accepted q served (c .if4 .taken) in
-    ended q refl (passes number _ pair (note .0) (note .1 .1) (l .inv .5))
+    let accepted = c .before .before .before .before .before .before .before .before .before .before .before .before .before .answer2 .given .1 in
+    let q = c .before .before .before .serve .result in
+    let served = c .before .before .before .serve .ensures ∙ ap (λ (t : Progress). serve table number t) (c .before .before .before .before .reach .ensures) in
+    let pair = over table p script (l .i) more (event .result) (event .ensures) _ accepted q served (c .before .if4 .taken) in
+    over-with (c .end-with .result) q refl (c .end-with .ensures) (passes number _ pair (note .0) (note .1 .1) (l .inv .5))
 
 pub run-pairs-spec : {M : Type 1} → statement M
 run-pairs-spec =
@@ -309,6 +314,7 @@ run-pairs-spec =
     (λ c. search needs)
     note-requires
     add-events-2
+    (λ c κs. search needs)
     (λ c κs. search needs)
     (λ c κs. search needs)
     (λ c κs. search needs)
