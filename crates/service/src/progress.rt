@@ -2,7 +2,7 @@
 use answer::ending::Ending;
 use controller::record::Controller;
 ghost use mathlib.Core.Path.{_≡_};
-ghost use Rattle.service.specs.Progress.{reaching, starting};
+ghost use Rattle.service.specs.Progress.{reaching};
 
 // What the driver keeps from one pair of the script to the next.
 pub struct Progress {
@@ -20,21 +20,6 @@ pub struct Progress {
 }
 
 impl Progress {
-    // A job begins with this record: nothing read back, no pair taken.
-    pub(crate) fn starting(c: Controller) -> Progress
-        ensures { λ r. ⌜ r ≡ starting c ⌝ }
-    {
-        let ending = Ending::Unfinished;
-        Progress {
-            controller: c,
-            over: false,
-            ending,
-            count: 0,
-            events: 0,
-            fetched: [0; 68],
-        }
-    }
-
     // The record and the pairs taken, as they are now.
     pub fn reach(mut self, c: Controller, events: usize) -> Progress
         ensures { λ r. ⌜ r ≡ reaching self c events ⌝ }

@@ -11,11 +11,20 @@ ghost use Rattle.service.specs.JobSteps.{begins};
 ghost use Rattle.service.specs.JobTable.{jobTable};
 ghost use Rattle.service.specs.Serve.{starts, hasWork, serve as serves};
 
-// A job begins: its first accesses done.
+// A job begins: its first accesses done, nothing read back, no pair taken.
 pub fn start(job: Job, c: Controller) -> Progress
     ensures { λ r. ⌜ r ≡ starts (begins job) c ⌝ }
 {
-    Progress::starting(begin(job, c))
+    let controller = begin(job, c);
+    let ending = Ending::Unfinished;
+    Progress {
+        controller,
+        over: false,
+        ending,
+        count: 0,
+        events: 0,
+        fetched: [0; 68],
+    }
 }
 
 // There is work after this event: it ends the job (14, or own STOP), or the status is not F8h.
