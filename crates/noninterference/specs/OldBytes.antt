@@ -27,7 +27,8 @@ pub record Request : Type 0 where
   pub script : List ℕ
 
 -- What the list may hold. Demand: "the same list of jobs with their scripts, resets, enabling writes and other masters' STARTs, STOPs
--- and address bytes, in any order, refused ones included". It is wider than the paper's list: any byte to INDPTR, to register 2 whatever the pointer, and to I2CCON.
+-- and address bytes, in any order, refused ones included". It is wider than the paper's list: any byte to INDPTR, to register 2 whatever
+-- the pointer, and to I2CCON.
 pub data Item : Type 0 where
   -- a job with its script
   runJob : Request → Item

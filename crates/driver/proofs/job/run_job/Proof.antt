@@ -48,12 +48,15 @@ run-pairs-requires c κs =
     (ap (λ (p : Progress). p .events) begun, ap (λ (p : Progress). p .over) begun)
 
 hand-up-requires : tie.Need-hand-up-requires
-hand-up-requires c κs = formed _ _ _ _ _ (sym (c .before .before .before .before .before .before .before .before .before .is-malformed .ensures) ∙ c .before .before .before .before .before .before .before .before .if1 .left) .high
+hand-up-requires c κs =
+    let s = c .before .before .before .before .before .before .before .before in
+    formed _ _ _ _ _ (sym (s .before .is-malformed .ensures) ∙ s .if1 .left) .high
 
 returns-2 : tie.Need-returns-2
 unfolding jobOf reports endedResult
 returns-2 c =
-    let s = c .before .before .before .before .before .before .before .before .before .before .before .before .before .before .before .before .before .before .args in
+    let at-ready = c .before .before .before .before .before .before .before .before .before .before in
+    let s = at-ready .before .before .before .before .before .before .before .before .args in
     let job = s .job in
     let destination = now (s .destination) in
     let out = now (s .out) in
@@ -64,8 +67,8 @@ returns-2 c =
     let worked = c .before .before .before .before .before .before .before .run-pairs in
     let whole = run table (starts (begins job) (s .c)) script in
     let begun : run table (begin .result) script ≡ whole = ap (λ (p : Progress). run table p script) (begin .ensures) in
-    let well = sym (c .before .before .before .before .before .before .before .before .before .before .before .before .before .is-malformed .ensures) ∙ c .before .before .before .before .before .before .before .before .before .before .before .before .if1 .left in
-    let able = sym (c .before .before .before .before .before .before .before .before .before .before .before .is-ready .ensures) ∙ c .before .before .before .before .before .before .before .before .before .before .if2 .taken in
+    let well = sym (at-ready .before .before .before .is-malformed .ensures) ∙ at-ready .before .before .if1 .left in
+    let able = sym (at-ready .before .is-ready .ensures) ∙ at-ready .if2 .taken in
     let e : report ≡ reports job whole = if-false _ _ _ well ∙ if-true _ _ _ able in
     let end = worked .result in
     let result : endedResult end ≡ whole .result = worked .ensures .0 ∙ ap (λ (r : Run). r .result) begun in
