@@ -7,6 +7,7 @@ use Rattle.address.specs.Number.{bitOf}
 use Rattle.controller.specs.Event.{eventOf}
 use Rattle.controller.specs.declared.record.Controller.{Controller}
 use Rattle.answer.specs.Ending.{numberOf, besideOf}
+use Rattle.answer.specs.declared.ending.Ending.{Ending}
 use Rattle.driver.specs.declared.result.Ended.{Ended}
 use Rattle.driver.specs.declared.result.JobResult.{JobResult}
 use Rattle.notation.specs.Choice.{if_then_else_, _and_}
@@ -27,14 +28,17 @@ pub record Result : Type 0 where
   pub count : ℕ
   pub events : ℕ
 
-unfoldable pub resultOf : JobResult → Result
-resultOf r = record {
-  next = r .controller;
-  answer = numberOf (r .ending);
-  refused = besideOf (r .ending);
-  count = r .count;
-  events = r .events;
+abbrev pub answering : Controller → Ending → ℕ → ℕ → Result
+answering c ending count events = record {
+  next = c;
+  answer = numberOf ending;
+  refused = besideOf ending;
+  count = count;
+  events = events;
 }
+
+unfoldable pub resultOf : JobResult → Result
+resultOf r = answering (r .controller) (r .ending) (r .count) (r .events)
 
 -- a run that is over, as the code has it: what was noted, and how many bytes were sent
 unfoldable pub endedOf : Progress → ℕ → Ended
@@ -48,13 +52,7 @@ endedOf p sent = record {
 }
 
 unfoldable pub endedResult : Ended → Result
-endedResult e = record {
-  next = e .controller;
-  answer = numberOf (e .ending);
-  refused = besideOf (e .ending);
-  count = e .count;
-  events = e .events;
-}
+endedResult e = answering (e .controller) (e .ending) (e .count) (e .events)
 
 -- What a run over pairs gives: the result, the bytes read back, and the bytes sent from here on.
 pub record Run : Type 0 where
@@ -64,17 +62,7 @@ pub record Run : Type 0 where
 
 -- a job that is over
 unfoldable pub closes : Progress → Run
-closes p = record {
-  result = record {
-    next = p .controller;
-    answer = numberOf (p .ending);
-    refused = besideOf (p .ending);
-    count = p .count;
-    events = p .events;
-  };
-  fetched = p .fetched;
-  sent = [];
-}
+closes p = record { result = answering (p .controller) (p .ending) (p .count) (p .events); fetched = p .fetched; sent = [] }
 
 -- 27, "script ended first; record as reached", and 28, "its number beside it .., record as before that event": count 0
 unfoldable pub breaks : Progress → ℕ → ℕ → Run
