@@ -9,3 +9,4 @@ pub mod Access
 pub mod Condition
 pub mod Transfer
 pub mod Event
+pub mod Effect

@@ -1,10 +1,13 @@
 // Reading and writing any register.
+use crate::effect::ReadEffect;
+use crate::effect::WriteEffect;
 use crate::record::Controller;
 use crate::reply::Reply;
 use answer::Refusal;
 ghost use mathlib.Core.Path.{_≡_};
 ghost use mathlib.Core.Bool.{true};
 ghost use Rattle.controller.specs.Record.{sound};
+ghost use Rattle.controller.specs.Effect.{afterRead, afterWrite};
 ghost use Rattle.controller.specs.Reply.{outcomeOf};
 ghost use Rattle.controller.specs.Access.{barsRead, barsWrite, indirectAt, readSound, readOf, writeSound, writeOf};
 
@@ -46,26 +49,37 @@ impl Controller {
     }
 
     // A register of a sound record, read.
-    fn read_sound(self, register: u8) -> Reply
+    fn read_sound(self, register: u8) -> ReadEffect
         requires { ⌜ sound self ≡ true ⌝ }
-        ensures { λ r. ⌜ outcomeOf r ≡ readSound self register ⌝ }
+        ensures { λ r. ⌜ afterRead self r ≡ readSound self register ⌝ }
     {
         if self.is_indirect_at(register, 5) {
-            return self.refuse(Refusal::Inaccessible);
+            return ReadEffect::Refused(Refusal::Inaccessible);
         }
         if self.bars_read(register) {
-            return self.refuse(Refusal::OnTheWire);
+            return ReadEffect::Refused(Refusal::OnTheWire);
         }
         let turn = self.turn;
         match register {
-            0 => self.accept(turn.status()),
+            0 => ReadEffect::Kept(turn.status()),
             1 => self.read_data(),
-            2 => self.accept(self.at_pointer()),
+            2 => ReadEffect::Kept(self.at_pointer()),
             _ => {
                 let flags = self.control;
-                self.accept(flags.byte(turn.interrupts()))
+                ReadEffect::Kept(flags.byte(turn.interrupts()))
             }
         }
+    }
+
+    // What any register of a sound record, read, changes.
+    pub fn read_effect(self, register: u8) -> ReadEffect
+        requires { ⌜ sound self ≡ true ⌝ }
+        ensures { λ r. ⌜ afterRead self r ≡ readOf self register ⌝ }
+    {
+        if 3 < register {
+            return ReadEffect::Refused(Refusal::OutOfRange);
+        }
+        self.read_sound(register)
     }
 
     // Any register read, of any record.
@@ -73,32 +87,43 @@ impl Controller {
         ensures { λ r. ⌜ outcomeOf r ≡ readOf self register ⌝ }
     {
         if 3 < register {
-            return self.refuse(Refusal::OutOfRange);
+            return self.refused(Refusal::OutOfRange);
         }
         if self.is_sound() {
-            self.read_sound(register)
+            self.after_read(self.read_sound(register))
         } else {
-            self.refuse(Refusal::Unsound)
+            self.refused(Refusal::Unsound)
         }
     }
 
     // A register of a sound record, written.
-    fn write_sound(self, register: u8, value: u8) -> Reply
+    fn write_sound(self, register: u8, value: u8) -> WriteEffect
         requires { ⌜ sound self ≡ true ⌝ }
-        ensures { λ r. ⌜ outcomeOf r ≡ writeSound self register value ⌝ }
+        ensures { λ r. ⌜ afterWrite self r ≡ writeSound self register value ⌝ }
     {
         if self.is_indirect_at(register, 7) {
-            return self.refuse(Refusal::Inaccessible);
+            return WriteEffect::Refused(Refusal::Inaccessible);
         }
         if self.bars_write(register) {
-            return self.refuse(Refusal::OnTheWire);
+            return WriteEffect::Refused(Refusal::OnTheWire);
         }
         match register {
-            0 => self.write_pointer(value),
+            0 => WriteEffect::Pointed(value % 8),
             1 => self.write_data(value),
             2 => self.write_at_pointer(value),
             _ => self.write_control(value),
         }
+    }
+
+    // What any value, written to any register of a sound record, changes.
+    pub fn write_effect(self, register: u8, value: u8) -> WriteEffect
+        requires { ⌜ sound self ≡ true ⌝ }
+        ensures { λ r. ⌜ afterWrite self r ≡ writeOf self register value ⌝ }
+    {
+        if 3 < register {
+            return WriteEffect::Refused(Refusal::OutOfRange);
+        }
+        self.write_sound(register, value)
     }
 
     // Any value written to any register, of any record.
@@ -106,12 +131,12 @@ impl Controller {
         ensures { λ r. ⌜ outcomeOf r ≡ writeOf self register value ⌝ }
     {
         if 3 < register {
-            return self.refuse(Refusal::OutOfRange);
+            return self.refused(Refusal::OutOfRange);
         }
         if self.is_sound() {
-            self.write_sound(register, value)
+            self.after_write(self.write_sound(register, value))
         } else {
-            self.refuse(Refusal::Unsound)
+            self.refused(Refusal::Unsound)
         }
     }
 }

@@ -1,6 +1,6 @@
 // Bus conditions and address bytes: events 1 to 5 and 8 to 13.
+use crate::effect::EventEffect;
 use crate::record::Controller;
-use crate::reply::Reply;
 use address::matching::Match;
 use address::matching::match_address;
 use address::number::AddressByte;
@@ -9,14 +9,14 @@ use answer::Refusal;
 use control::turn::Edge;
 use control::turn::Turn;
 ghost use mathlib.Core.Path.{_≡_};
-ghost use Rattle.controller.specs.Reply.{outcomeOf};
+ghost use Rattle.controller.specs.Effect.{afterEvent};
 ghost use Rattle.controller.specs.Condition.{ownStart, otherStart, otherStop, ownStop, matches, addressed, addressByte};
 ghost use Rattle.controller.specs.Condition.{outbid, addressLost, dataLost, illegalEdge, dataHeld, clockHeld, idle};
 
 impl Controller {
     // 1. Own START.
-    pub(crate) fn own_start(self) -> Reply
-        ensures { λ r. ⌜ outcomeOf r ≡ ownStart self ⌝ }
+    pub(crate) fn own_start(self) -> EventEffect
+        ensures { λ r. ⌜ afterEvent self r ≡ ownStart self ⌝ }
     {
         let turn = self.turn;
         match turn {
@@ -33,8 +33,8 @@ impl Controller {
     }
 
     // 2. Another's START.
-    pub(crate) fn other_start(self) -> Reply
-        ensures { λ r. ⌜ outcomeOf r ≡ otherStart self ⌝ }
+    pub(crate) fn other_start(self) -> EventEffect
+        ensures { λ r. ⌜ afterEvent self r ≡ otherStart self ⌝ }
     {
         let turn = self.turn;
         match turn {
@@ -46,8 +46,8 @@ impl Controller {
     }
 
     // 3. Another's STOP.
-    pub(crate) fn other_stop(self) -> Reply
-        ensures { λ r. ⌜ outcomeOf r ≡ otherStop self ⌝ }
+    pub(crate) fn other_stop(self) -> EventEffect
+        ensures { λ r. ⌜ afterEvent self r ≡ otherStop self ⌝ }
     {
         let turn = self.turn;
         match turn {
@@ -58,15 +58,12 @@ impl Controller {
     }
 
     // 4. Own STOP.
-    pub(crate) fn own_stop(mut self) -> Reply
-        ensures { λ r. ⌜ outcomeOf r ≡ ownStop self ⌝ }
+    pub(crate) fn own_stop(self) -> EventEffect
+        ensures { λ r. ⌜ afterEvent self r ≡ ownStop self ⌝ }
     {
         let turn = self.turn;
         match turn {
-            Turn::Stopping => {
-                self.control.sto = false;
-                self.wait_for(Turn::Free, 0)
-            }
+            Turn::Stopping => EventEffect::Stopped,
             _ => self.refuse(Refusal::Unexpected),
         }
     }
@@ -79,8 +76,8 @@ impl Controller {
     }
 
     // 5. The status by what the address byte matched.
-    fn addressed(self, found: Match) -> Reply
-        ensures { λ r. ⌜ outcomeOf r ≡ addressed self found ⌝ }
+    fn addressed(self, found: Match) -> EventEffect
+        ensures { λ r. ⌜ afterEvent self r ≡ addressed self found ⌝ }
     {
         match found {
             Match::General => self.give(0xD0, 0),
@@ -93,8 +90,8 @@ impl Controller {
     }
 
     // 5. An address byte.
-    pub(crate) fn address_byte(self, byte: u8) -> Reply
-        ensures { λ r. ⌜ outcomeOf r ≡ addressByte self byte ⌝ }
+    pub(crate) fn address_byte(self, byte: u8) -> EventEffect
+        ensures { λ r. ⌜ afterEvent self r ≡ addressByte self byte ⌝ }
     {
         let turn = self.turn;
         match turn {
@@ -104,8 +101,8 @@ impl Controller {
     }
 
     // 8. The status by what the winner's byte matched.
-    fn outbid(self, found: Match) -> Reply
-        ensures { λ r. ⌜ outcomeOf r ≡ outbid self found ⌝ }
+    fn outbid(self, found: Match) -> EventEffect
+        ensures { λ r. ⌜ afterEvent self r ≡ outbid self found ⌝ }
     {
         match found {
             Match::General => self.give(0xD8, 0),
@@ -118,8 +115,8 @@ impl Controller {
     }
 
     // 8. Arbitration lost to a smaller address byte.
-    pub(crate) fn address_lost(self, byte: u8) -> Reply
-        ensures { λ r. ⌜ outcomeOf r ≡ addressLost self byte ⌝ }
+    pub(crate) fn address_lost(self, byte: u8) -> EventEffect
+        ensures { λ r. ⌜ afterEvent self r ≡ addressLost self byte ⌝ }
     {
         let turn = self.turn;
         match turn {
@@ -136,8 +133,8 @@ impl Controller {
     }
 
     // 9. Arbitration lost in a data byte.
-    pub(crate) fn data_lost(self) -> Reply
-        ensures { λ r. ⌜ outcomeOf r ≡ dataLost self ⌝ }
+    pub(crate) fn data_lost(self) -> EventEffect
+        ensures { λ r. ⌜ afterEvent self r ≡ dataLost self ⌝ }
     {
         let turn = self.turn;
         match turn {
@@ -147,20 +144,20 @@ impl Controller {
     }
 
     // 10. START or STOP at an illegal place.
-    pub(crate) fn illegal_edge(self) -> Reply
-        ensures { λ r. ⌜ outcomeOf r ≡ illegalEdge self ⌝ }
+    pub(crate) fn illegal_edge(self) -> EventEffect
+        ensures { λ r. ⌜ afterEvent self r ≡ illegalEdge self ⌝ }
     {
         let turn = self.turn;
         match turn {
             Turn::Off | Turn::Host(_, _) => self.refuse(Refusal::Unexpected),
-            Turn::Free | Turn::Busy | Turn::Listen => self.accept(0),
+            Turn::Free | Turn::Busy | Turn::Listen => EventEffect::Kept,
             _ => self.give(0x00, 0),
         }
     }
 
     // 11. SDA held after nine clocks.
-    pub(crate) fn data_held(self) -> Reply
-        ensures { λ r. ⌜ outcomeOf r ≡ dataHeld self ⌝ }
+    pub(crate) fn data_held(self) -> EventEffect
+        ensures { λ r. ⌜ afterEvent self r ≡ dataHeld self ⌝ }
     {
         let turn = self.turn;
         match turn {
@@ -177,8 +174,8 @@ impl Controller {
     }
 
     // 12. SCL low past the time-out.
-    pub(crate) fn clock_held(self) -> Reply
-        ensures { λ r. ⌜ outcomeOf r ≡ clockHeld self ⌝ }
+    pub(crate) fn clock_held(self) -> EventEffect
+        ensures { λ r. ⌜ afterEvent self r ≡ clockHeld self ⌝ }
     {
         let turn = self.turn;
         match turn {
@@ -195,8 +192,8 @@ impl Controller {
     }
 
     // 13. Idle past the time-out.
-    pub(crate) fn idle(self) -> Reply
-        ensures { λ r. ⌜ outcomeOf r ≡ idle self ⌝ }
+    pub(crate) fn idle(self) -> EventEffect
+        ensures { λ r. ⌜ afterEvent self r ≡ idle self ⌝ }
     {
         let enabled = self.registers.timeout / 128 == 1;
         if enabled {

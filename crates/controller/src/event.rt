@@ -1,12 +1,24 @@
 // Any bus event, by its number.
+use crate::effect::EventEffect;
 use crate::record::Controller;
 use crate::reply::Reply;
 use answer::Refusal;
 ghost use mathlib.Core.Path.{_≡_};
 ghost use mathlib.Core.Bool.{true};
 ghost use Rattle.controller.specs.Record.{sound};
+ghost use lib.Dec.{eqb, ltb};
+ghost use Rattle.controller.specs.Effect.{afterEvent};
 ghost use Rattle.controller.specs.Reply.{outcomeOf};
+ghost use Rattle.notation.specs.Choice.{_or_};
 ghost use Rattle.controller.specs.Event.{badArgument, eventSound, eventOf};
+
+// The number is not 1..14.
+fn is_no_event(number: u8) -> bool
+    ensures { λ r. ⌜ r ≡ (eqb number 0 or ltb 14 number) ⌝ }
+{
+    let none = number == 0;
+    if none { true } else { 14 < number }
+}
 
 // The argument is not one that the event takes.
 fn is_bad_argument(number: u8, argument: u8) -> bool
@@ -23,9 +35,9 @@ fn is_bad_argument(number: u8, argument: u8) -> bool
 
 impl Controller {
     // Events 1 to 13.
-    fn event_sound(self, number: u8, argument: u8) -> Reply
+    fn event_sound(self, number: u8, argument: u8) -> EventEffect
         requires { ⌜ sound self ≡ true ⌝ }
-        ensures { λ r. ⌜ outcomeOf r ≡ eventSound self number argument ⌝ }
+        ensures { λ r. ⌜ afterEvent self r ≡ eventSound self number argument ⌝ }
     {
         match number {
             1 => self.own_start(),
@@ -44,28 +56,42 @@ impl Controller {
         }
     }
 
+    // What any event with any argument changes, of a sound record.
+    pub fn event_effect(self, number: u8, argument: u8) -> EventEffect
+        requires { ⌜ sound self ≡ true ⌝ }
+        ensures { λ r. ⌜ afterEvent self r ≡ eventOf self number argument ⌝ }
+    {
+        if is_no_event(number) {
+            return EventEffect::Refused(Refusal::OutOfRange);
+        }
+        if is_bad_argument(number, argument) {
+            return EventEffect::Refused(Refusal::BadArgument);
+        }
+        let pin = number == 14;
+        if pin {
+            return EventEffect::Reset;
+        }
+        self.event_sound(number, argument)
+    }
+
     // Any event with any argument, of any record.
     pub fn event(self, number: u8, argument: u8) -> Reply
         ensures { λ r. ⌜ outcomeOf r ≡ eventOf self number argument ⌝ }
     {
-        let none = number == 0;
-        if none {
-            return self.refuse(Refusal::OutOfRange);
-        }
-        if 14 < number {
-            return self.refuse(Refusal::OutOfRange);
+        if is_no_event(number) {
+            return self.refused(Refusal::OutOfRange);
         }
         if is_bad_argument(number, argument) {
-            return self.refuse(Refusal::BadArgument);
+            return self.refused(Refusal::BadArgument);
         }
         let pin = number == 14;
         if pin {
-            return self.reset().accept(0);
+            return self.reset().accepted(0);
         }
         if self.is_sound() {
-            self.event_sound(number, argument)
+            self.after_event(self.event_sound(number, argument))
         } else {
-            self.refuse(Refusal::Unsound)
+            self.refused(Refusal::Unsound)
         }
     }
 }

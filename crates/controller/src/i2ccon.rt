@@ -1,13 +1,14 @@
 // Writing I2CCON.
+use crate::effect::Setting;
+use crate::effect::WriteEffect;
 use crate::record::Controller;
-use crate::reply::Reply;
 use answer::Refusal;
 use control::flags::Control;
 use control::turn::Turn;
 use control::writing::Response;
 use control::writing::respond;
 ghost use mathlib.Core.Path.{_≡_};
-ghost use Rattle.controller.specs.Reply.{outcomeOf};
+ghost use Rattle.controller.specs.Effect.{afterWrite};
 ghost use Rattle.controller.specs.I2ccon.{keeps, controlled, badCount, enabled, writeFlags, writeControl};
 
 // The flags that a write leaves: STO is stored only where it leads to Stopping.
@@ -27,25 +28,13 @@ fn keep(old: Control, k: Control, turn: Turn) -> Control
 }
 
 impl Controller {
-    // An accepted write: flags and turn stored, hand place and moved count back at 0.
-    fn controlled(self, k: Control, turn: Turn) -> Reply
-        ensures { λ r. ⌜ outcomeOf r ≡ controlled self k turn ⌝ }
+    // An accepted write.
+    fn controlled(self, k: Control, turn: Turn) -> WriteEffect
+        ensures { λ r. ⌜ afterWrite self r ≡ controlled self k turn ⌝ }
     {
         let old = self.control;
         let control = keep(old, k, turn);
-        let buffer = self.buffer;
-        let registers = self.registers;
-        let next = Controller {
-            buffer,
-            hand: 0,
-            moved: 0,
-            pointer: self.pointer,
-            armed: self.armed,
-            registers,
-            control,
-            turn,
-        };
-        next.wrote()
+        WriteEffect::Controlled(Setting { control, turn })
     }
 
     // The write would start a buffered data move, and BC is not 1..68.
@@ -63,14 +52,14 @@ impl Controller {
     }
 
     // A write with ENSIO 1.
-    fn enabled(self, k: Control, response: Response) -> Reply
-        ensures { λ r. ⌜ outcomeOf r ≡ enabled self k response ⌝ }
+    fn enabled(self, k: Control, response: Response) -> WriteEffect
+        ensures { λ r. ⌜ afterWrite self r ≡ enabled self k response ⌝ }
     {
         match response {
-            Response::Unlisted => self.refuse(Refusal::Unlisted),
+            Response::Unlisted => WriteEffect::Refused(Refusal::Unlisted),
             Response::Next(turn) => {
                 if self.bad_count(k, turn) {
-                    self.refuse(Refusal::BadCount)
+                    WriteEffect::Refused(Refusal::BadCount)
                 } else {
                     self.controlled(k, turn)
                 }
@@ -78,13 +67,13 @@ impl Controller {
         }
     }
 
-    fn write_flags(self, k: Control) -> Reply
-        ensures { λ r. ⌜ outcomeOf r ≡ writeFlags self k ⌝ }
+    fn write_flags(self, k: Control) -> WriteEffect
+        ensures { λ r. ⌜ afterWrite self r ≡ writeFlags self k ⌝ }
     {
         let turn = self.turn;
         let status = turn.status();
         match status {
-            0x00 | 0x70 | 0x78 => self.refuse(Refusal::Locked),
+            0x00 | 0x70 | 0x78 => WriteEffect::Refused(Refusal::Locked),
             _ => {
                 if k.ensio {
                     let response = respond(turn, k);
@@ -98,8 +87,8 @@ impl Controller {
         }
     }
 
-    pub(crate) fn write_control(self, value: u8) -> Reply
-        ensures { λ r. ⌜ outcomeOf r ≡ writeControl self value ⌝ }
+    pub(crate) fn write_control(self, value: u8) -> WriteEffect
+        ensures { λ r. ⌜ afterWrite self r ≡ writeControl self value ⌝ }
     {
         self.write_flags(Control::of_byte(value))
     }

@@ -1,14 +1,18 @@
-// What an access or event hands back, and the few ways in which a rule ends.
+// What an access or event hands back: the next record, and the answer.
+use crate::effect::EventEffect;
+use crate::effect::ReadEffect;
+use crate::effect::WriteEffect;
 use crate::record::Controller;
 use answer::Answer;
 use answer::Refusal;
 use control::turn::Edge;
-use control::turn::Turn;
+ghost use mathlib.Core.Bool.{true};
 ghost use mathlib.Core.Path.{_≡_};
-ghost use Rattle.control.specs.declared.turn.Edge.the-variants.{Stop};
-ghost use Rattle.controller.specs.Setters.{withTurn};
 ghost use Rattle.answer.specs.Refusal.{refusalNumber};
-ghost use Rattle.controller.specs.Reply.{outcomeOf, refuses, accepts, waitsFor, interruptsAt};
+ghost use Rattle.controller.specs.Effect.{afterRead, afterWrite, afterEvent};
+ghost use Rattle.controller.specs.Record.{sound};
+ghost use Rattle.controller.specs.Reply.{outcomeOf, refuses, accepts};
+ghost use Rattle.controller.specs.Setters.{withPlace};
 
 pub struct Reply {
     pub controller: Controller,
@@ -17,7 +21,7 @@ pub struct Reply {
 
 impl Controller {
     // Refused: the record stays.
-    pub(crate) fn refuse(self, why: Refusal) -> Reply
+    pub(crate) fn refused(self, why: Refusal) -> Reply
         ensures { λ r. ⌜ outcomeOf r ≡ refuses self (refusalNumber why) ⌝ }
     {
         Reply {
@@ -27,7 +31,7 @@ impl Controller {
     }
 
     // Accepted, with this record as the next.
-    pub(crate) fn accept(self, value: u8) -> Reply
+    pub(crate) fn accepted(self, value: u8) -> Reply
         ensures { λ r. ⌜ outcomeOf r ≡ accepts self value ⌝ }
     {
         Reply {
@@ -36,45 +40,74 @@ impl Controller {
         }
     }
 
-    pub(crate) fn turned(self, turn: Turn) -> Controller
-        ensures { λ r. ⌜ r ≡ withTurn self turn ⌝ }
+    // A byte at a place of the buffer.
+    fn with_place(mut self, place: u8, byte: u8) -> Controller
+        ensures { λ r. ⌜ r ≡ withPlace self place byte ⌝ }
     {
-        let buffer = self.buffer;
-        let registers = self.registers;
-        let control = self.control;
-        Controller {
-            buffer,
-            hand: self.hand,
-            moved: self.moved,
-            pointer: self.pointer,
-            armed: self.armed,
-            registers,
-            control,
-            turn,
+        let at = place as usize;
+        if at < 68 {
+            self.buffer[at] = byte;
+        }
+        self
+    }
+
+    pub(crate) fn after_read(mut self, effect: ReadEffect) -> Reply
+        requires { ⌜ sound self ≡ true ⌝ }
+        ensures { λ r. ⌜ outcomeOf r ≡ afterRead self effect ⌝ }
+    {
+        match effect {
+            ReadEffect::Refused(why) => self.refused(why),
+            ReadEffect::Kept(value) => self.accepted(value),
+            ReadEffect::Advanced(value) => {
+                self.hand += 1;
+                self.accepted(value)
+            }
         }
     }
 
-    // Accepted, waiting for something else.
-    pub(crate) fn wait_for(self, turn: Turn, value: u8) -> Reply
-        ensures { λ r. ⌜ outcomeOf r ≡ waitsFor self turn value ⌝ }
+    pub(crate) fn after_write(mut self, effect: WriteEffect) -> Reply
+        requires { ⌜ sound self ≡ true ⌝ }
+        ensures { λ r. ⌜ outcomeOf r ≡ afterWrite self effect ⌝ }
     {
-        let waiting = self.turned(turn);
-        waiting.accept(value)
+        match effect {
+            WriteEffect::Refused(why) => self.refused(why),
+            WriteEffect::Pointed(pointer) => self.pointed(pointer).accepted(0),
+            WriteEffect::Loaded(byte) => self.with_place(self.hand, byte).advanced().accepted(0),
+            WriteEffect::Registered(value) => self.registered(value).accepted(0),
+            WriteEffect::Armed(armed) => {
+                self.armed = armed;
+                self.accepted(0)
+            }
+            WriteEffect::Controlled(s) => self.set(s).accepted(0),
+            WriteEffect::Reset => self.reset().accepted(0),
+        }
     }
 
-    // Accepted with a status: Host's turn, and the hand place back at 0.
-    pub(crate) fn interrupt(mut self, status: u8, edge: Edge, value: u8) -> Reply
-        ensures { λ r. ⌜ outcomeOf r ≡ interruptsAt self status edge value ⌝ }
+    pub(crate) fn after_event(mut self, effect: EventEffect) -> Reply
+        requires { ⌜ sound self ≡ true ⌝ }
+        ensures { λ r. ⌜ outcomeOf r ≡ afterEvent self effect ⌝ }
     {
-        self.hand = 0;
-        let interrupted = self.turned(Turn::Host(status, edge));
-        interrupted.accept(value)
-    }
-
-    // The same for every status but A0h.
-    pub(crate) fn give(self, status: u8, value: u8) -> Reply
-        ensures { λ r. ⌜ outcomeOf r ≡ interruptsAt self status Stop value ⌝ }
-    {
-        self.interrupt(status, Edge::Stop, value)
+        match effect {
+            EventEffect::Refused(why) => self.refused(why),
+            EventEffect::Kept => self.accepted(0),
+            EventEffect::Waits(turn, value) => self.turned(turn).accepted(value),
+            EventEffect::Stopped => self.stopped().accepted(0),
+            EventEffect::Interrupts(status, edge, value) => self.interrupted(status, edge)
+                .accepted(value),
+            EventEffect::Sent(byte) => {
+                self.moved += 1;
+                self.accepted(byte)
+            }
+            EventEffect::SentLast(status, byte) => self.ended(status).accepted(byte),
+            EventEffect::Stored(byte) => {
+                let mut stored = self.with_place(self.cursor(), byte);
+                stored.moved += 1;
+                stored.accepted(0)
+            }
+            EventEffect::StoredLast(status, byte, value) => self.with_place(self.cursor(), byte)
+                .ended(status)
+                .accepted(value),
+            EventEffect::Reset => self.reset().accepted(0),
+        }
     }
 }

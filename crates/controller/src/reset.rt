@@ -1,11 +1,11 @@
 // The reset pin, the software reset, and the fresh controller.
+use crate::effect::WriteEffect;
 use crate::record::Controller;
 use crate::record::Registers;
-use crate::reply::Reply;
 use control::flags::Control;
 use control::turn::Turn;
 ghost use mathlib.Core.Path.{_≡_};
-ghost use Rattle.controller.specs.Reply.{outcomeOf};
+ghost use Rattle.controller.specs.Effect.{afterWrite};
 ghost use Rattle.controller.specs.Reset.{reset, resetWith, fresh, completesReset, writePreset};
 
 fn reset_with(buffer: [u8; 68]) -> Controller
@@ -45,7 +45,7 @@ impl Controller {
     }
 
     // A reset keeps the buffer.
-    pub(crate) fn reset(self) -> Controller
+    pub fn reset(self) -> Controller
         ensures { λ r. ⌜ r ≡ reset self ⌝ }
     {
         let buffer = self.buffer;
@@ -60,13 +60,13 @@ impl Controller {
     }
 
     // A write to I2CPRESET: it resets, or arms, or disarms.
-    pub(crate) fn write_preset(mut self, value: u8) -> Reply
-        ensures { λ r. ⌜ outcomeOf r ≡ writePreset self value ⌝ }
+    pub(crate) fn write_preset(self, value: u8) -> WriteEffect
+        ensures { λ r. ⌜ afterWrite self r ≡ writePreset self value ⌝ }
     {
         if self.completes_reset(value) {
-            return self.reset().accept(0);
+            return WriteEffect::Reset;
         }
-        self.armed = value == 0xA5;
-        self.accept(0)
+        let arms = value == 0xA5;
+        WriteEffect::Armed(arms)
     }
 }

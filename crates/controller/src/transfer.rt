@@ -1,6 +1,6 @@
 // Bytes out and in: events 6 and 7.
+use crate::effect::EventEffect;
 use crate::record::Controller;
-use crate::reply::Reply;
 use address::number::AddressByte;
 use address::number::Direction;
 use answer::Refusal;
@@ -10,7 +10,7 @@ ghost use mathlib.Core.Path.{_≡_};
 ghost use mathlib.Core.Bool.{true};
 ghost use Prim.Native.Nat.{_<_};
 ghost use Rattle.controller.specs.Record.{sound};
-ghost use Rattle.controller.specs.Reply.{outcomeOf};
+ghost use Rattle.controller.specs.Effect.{afterEvent};
 ghost use Rattle.controller.specs.Transfer.{cursor, isLast, dataOut, addressStatus, byteOut, acknowledgesLast, dataIn, slaveIn, byteIn};
 
 // The status after an address byte that was acknowledged (0) or not (1).
@@ -26,7 +26,7 @@ fn address_status(direction: Direction, nack: u8) -> u8
 
 impl Controller {
     // The place that the next data byte is moved from or to.
-    fn cursor(self) -> u8
+    pub fn cursor(self) -> u8
         ensures { λ r. ⌜ r ≡ cursor self ⌝ }
     {
         if self.control.mode { self.moved } else { 0 }
@@ -58,29 +58,28 @@ impl Controller {
     }
 
     // A data byte out: `broken` is the status at a NACK, `done` the one at the last byte.
-    fn data_out(mut self, nack: u8, broken: u8, done: u8) -> Reply
+    fn data_out(self, nack: u8, broken: u8, done: u8) -> EventEffect
         requires { ⌜ self .moved < 68 ⌝ }
-        ensures { λ r. ⌜ outcomeOf r ≡ dataOut self nack broken done ⌝ }
+        ensures { λ r. ⌜ afterEvent self r ≡ dataOut self nack broken done ⌝ }
     {
         let at = self.cursor() as usize;
         let buffer = self.buffer;
         let byte = buffer[at];
-        let last = self.is_last();
-        self.moved = self.moved + 1;
         let refused = nack == 1;
         if refused {
-            return self.give(broken, byte);
+            return EventEffect::SentLast(broken, byte);
         }
-        if last {
-            return self.give(done, byte);
+        if self.is_last() {
+            EventEffect::SentLast(done, byte)
+        } else {
+            EventEffect::Sent(byte)
         }
-        self.accept(byte)
     }
 
     // 6. A byte out, with what the receiver answered.
-    pub(crate) fn byte_out(self, nack: u8) -> Reply
+    pub(crate) fn byte_out(self, nack: u8) -> EventEffect
         requires { ⌜ sound self ≡ true ⌝ }
-        ensures { λ r. ⌜ outcomeOf r ≡ byteOut self nack ⌝ }
+        ensures { λ r. ⌜ afterEvent self r ≡ byteOut self nack ⌝ }
     {
         let turn = self.turn;
         match turn {
@@ -103,30 +102,25 @@ impl Controller {
     }
 
     // A data byte in, stored at its place and counted: the status at the last byte is `taken` if it is acknowledged, else `ended`.
-    fn data_in(mut self, byte: u8, taken: u8, ended: u8) -> Reply
+    fn data_in(self, byte: u8, taken: u8, ended: u8) -> EventEffect
         requires { ⌜ self .moved < 68 ⌝ }
-        ensures { λ r. ⌜ outcomeOf r ≡ dataIn self byte taken ended ⌝ }
+        ensures { λ r. ⌜ afterEvent self r ≡ dataIn self byte taken ended ⌝ }
     {
-        let last = self.is_last();
-        let acknowledged = self.acknowledges_last();
-        let at = self.cursor() as usize;
-        self.buffer[at] = byte;
-        self.moved += 1;
-        if last {
-            if acknowledged {
-                self.give(taken, 0)
+        if self.is_last() {
+            if self.acknowledges_last() {
+                EventEffect::StoredLast(taken, byte, 0)
             } else {
-                self.give(ended, 1)
+                EventEffect::StoredLast(ended, byte, 1)
             }
         } else {
-            self.accept(0)
+            EventEffect::Stored(byte)
         }
     }
 
     // A data byte in as a slave, by the address that was called.
-    fn slave_in(self, byte: u8, called: Called) -> Reply
+    fn slave_in(self, byte: u8, called: Called) -> EventEffect
         requires { ⌜ self .moved < 68 ⌝ }
-        ensures { λ r. ⌜ outcomeOf r ≡ slaveIn self byte called ⌝ }
+        ensures { λ r. ⌜ afterEvent self r ≡ slaveIn self byte called ⌝ }
     {
         match called {
             Called::Own => self.data_in(byte, 0x80, 0x88),
@@ -135,9 +129,9 @@ impl Controller {
     }
 
     // 7. A byte in; the value tells whether it was acknowledged.
-    pub(crate) fn byte_in(self, byte: u8) -> Reply
+    pub(crate) fn byte_in(self, byte: u8) -> EventEffect
         requires { ⌜ sound self ≡ true ⌝ }
-        ensures { λ r. ⌜ outcomeOf r ≡ byteIn self byte ⌝ }
+        ensures { λ r. ⌜ afterEvent self r ≡ byteIn self byte ⌝ }
     {
         let turn = self.turn;
         match turn {

@@ -1,20 +1,19 @@
 -- `enabled` is `enabled`: what is known at each return settles the tests of the definition.
 use mathlib.Core.Path.{sym, _∙_}
 use borrow.Author.Needs.{needs}
+use Rattle.controller.specs.Effect.{afterWrite}
 use Rattle.controller.specs.I2ccon.{enabled}
 use Rattle.notation.proofs.Cases.{cases}
 use Rattle.controller.proofs.record.Controller.enabled.Statement.{statement}
 use Rattle.controller.proofs.record.Controller.enabled.Tie as tie
 
 returns : tie.Need-returns
-unfolding enabled
-returns c = c .refuse .ensures ∙ rw (c .before .enum-told .given .1)
+unfolding enabled afterWrite
+returns c = rw (c .enum-told .given .1)
 
 returns-2 : tie.Need-returns-2
-unfolding enabled
-returns-2 c =
-    c .refuse2 .ensures ∙ rw (c .before .before .before .before .response .given .1)
-    (search (sym (c .before .before .bad-count .ensures) ∙ c .before .if1 .taken, cases))
+unfolding enabled afterWrite
+returns-2 c = rw (c .before .before .before .response .given .1) (search (sym (c .before .bad-count .ensures) ∙ c .if1 .taken, cases))
 
 returns-3 : tie.Need-returns-3
 unfolding enabled
@@ -27,9 +26,7 @@ enabled-spec =
     tie.close
     (tie.spec
     (λ c. search needs)
-    (λ c κs. search needs)
     (λ c. search needs)
-    (λ c κs. search needs)
     (λ c κs. search needs)
     (λ c κs. search needs)
     returns

@@ -8,40 +8,41 @@ use Rattle.controller.proofs.record.Controller.event.Tie as tie
 
 returns : tie.Need-returns
 unfolding eventOf
-returns c = search cases
+returns c = search (sym (c .before .before .is-no-event .ensures) ∙ c .before .if1 .taken, cases)
 
 returns-2 : tie.Need-returns-2
 unfolding eventOf
-returns-2 c = search cases
+returns-2 c = search (sym (c .before .before .is-bad-argument .ensures) ∙ c .before .if2 .taken, sym (c .before .before .before .before .is-no-event .ensures) ∙ c .before .before .before .if1 .left, cases)
 
 returns-3 : tie.Need-returns-3
 unfolding eventOf
-returns-3 c = search (sym (c .before .before .is-bad-argument .ensures) ∙ c .before .if3 .taken, cases)
+returns-3 c =
+    c .accepted .ensures ∙ rw (c .before .reset .ensures)
+    (search (sym (c .before .before .before .before .is-bad-argument .ensures) ∙ c .before .before .before .if2 .left, sym (c .before .before .before .before .before .before .is-no-event .ensures) ∙ c .before .before .before .before .before .if1 .left, cases))
+
+event-sound-requires : tie.Need-event-sound-requires
+event-sound-requires c κs = sym (c .before .is-sound .ensures) ∙ c .if4 .taken
+
+after-event-requires : tie.Need-after-event-requires
+after-event-requires c κs = sym (c .before .before .is-sound .ensures) ∙ c .before .if4 .taken
 
 returns-4 : tie.Need-returns-4
 unfolding eventOf
 returns-4 c =
-    c .accept .ensures ∙ rw (c .before .reset .ensures)
-    (search (sym (c .before .before .before .before .is-bad-argument .ensures) ∙ c .before .before .before .if3 .left, cases))
-
-event-sound-requires : tie.Need-event-sound-requires
-event-sound-requires c κs = sym (c .before .is-sound .ensures) ∙ c .if5 .taken
+    c .after-event .ensures ∙ c .before .event-sound .ensures ∙ search (
+      sym (c .before .before .before .is-sound .ensures) ∙ c .before .before .if4 .taken,
+      sym (c .before .before .before .before .before .before .is-bad-argument .ensures) ∙ c .before .before .before .before .before .if2 .left,
+      sym (c .before .before .before .before .before .before .before .before .is-no-event .ensures) ∙ c .before .before .before .before .before .before .before .if1 .left,
+      cases,
+    )
 
 returns-5 : tie.Need-returns-5
 unfolding eventOf
 returns-5 c =
     search (
-      sym (c .before .before .is-sound .ensures) ∙ c .before .if5 .taken,
-      sym (c .before .before .before .before .before .is-bad-argument .ensures) ∙ c .before .before .before .before .if3 .left,
-      cases,
-    )
-
-returns-6 : tie.Need-returns-6
-unfolding eventOf
-returns-6 c =
-    search (
-      sym (c .before .before .is-sound .ensures) ∙ c .before .if5 .left,
-      sym (c .before .before .before .before .before .is-bad-argument .ensures) ∙ c .before .before .before .before .if3 .left,
+      sym (c .before .before .is-sound .ensures) ∙ c .before .if4 .left,
+      sym (c .before .before .before .before .before .is-bad-argument .ensures) ∙ c .before .before .before .before .if2 .left,
+      sym (c .before .before .before .before .before .before .before .is-no-event .ensures) ∙ c .before .before .before .before .before .before .if1 .left,
       cases,
     )
 
@@ -50,17 +51,17 @@ event-spec =
     tie.close
     (tie.spec
     (λ c κs. search needs)
+    (λ c κs. search needs)
     returns
+    (λ c κs. search needs)
     (λ c κs. search needs)
     returns-2
     (λ c κs. search needs)
     (λ c κs. search needs)
     returns-3
     (λ c κs. search needs)
+    event-sound-requires
+    after-event-requires
     (λ c κs. search needs)
     returns-4
-    (λ c κs. search needs)
-    event-sound-requires
-    (λ c κs. search needs)
-    returns-5
-    returns-6)
+    returns-5)

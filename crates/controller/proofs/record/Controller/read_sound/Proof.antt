@@ -2,23 +2,24 @@
 use mathlib.Core.Path.{sym, _∙_}
 use borrow.Author.Needs.{needs}
 use borrow.Author.Tests.{ne-eqb}
+use Rattle.controller.proofs.SoundParts.{parts}
 use Rattle.controller.specs.Access.{readSound}
+use Rattle.controller.specs.Effect.{afterRead}
 use Rattle.notation.proofs.Among.{key-is}
 use Rattle.notation.proofs.Cases.{cases}
-use Rattle.controller.proofs.SoundParts.{parts}
 use Rattle.controller.proofs.record.Controller.read_sound.Statement.{statement}
 use Rattle.controller.proofs.record.Controller.read_sound.Tie as tie
 
 returns : tie.Need-returns
-unfolding readSound
-returns c = search (sym (c .before .before .is-indirect-at .ensures) ∙ c .before .if1 .taken, cases)
+unfolding readSound afterRead
+returns c = search (sym (c .before .is-indirect-at .ensures) ∙ c .if1 .taken, cases)
 
 returns-2 : tie.Need-returns-2
-unfolding readSound
+unfolding readSound afterRead
 returns-2 c =
     search (
-      sym (c .before .before .bars-read .ensures) ∙ c .before .if2 .taken,
-      sym (c .before .before .before .before .is-indirect-at .ensures) ∙ c .before .before .before .if1 .left,
+      sym (c .before .bars-read .ensures) ∙ c .if2 .taken,
+      sym (c .before .before .before .is-indirect-at .ensures) ∙ c .before .before .if1 .left,
       cases,
     )
 
@@ -26,13 +27,13 @@ read-data-requires : tie.Need-read-data-requires
 read-data-requires c κs = parts (c .before .before .before .before .before .args .self) (c .before .before .before .before .before .pre) .hand
 
 returns-3 : tie.Need-returns-3
-unfolding readSound
+unfolding readSound afterRead
 returns-3 c =
-    let arm = c .before .before in
+    let arm = c .before in
     let register = arm .before .before .before .before .before .args .register in
     let allowed = sym (arm .before .before .bars-read .ensures) ∙ arm .before .if2 .left in
     let direct = sym (arm .before .before .before .before .is-indirect-at .ensures) ∙ arm .before .before .before .if1 .left in
-    c .accept .ensures ∙ rw (c .before .status .ensures) (search (key-is 0 register (arm .match .keys1), allowed, direct, cases))
+    rw (c .status .ensures) (search (key-is 0 register (arm .match .keys1), allowed, direct, cases))
 
 returns-4 : tie.Need-returns-4
 unfolding readSound
@@ -44,23 +45,23 @@ returns-4 c =
     search (key-is 1 register (arm .match .keys2), allowed, direct, cases)
 
 returns-5 : tie.Need-returns-5
-unfolding readSound
+unfolding readSound afterRead
 returns-5 c =
-    let arm = c .before .before in
+    let arm = c .before in
     let register = arm .before .before .before .before .before .args .register in
     let allowed = sym (arm .before .before .bars-read .ensures) ∙ arm .before .if2 .left in
     let direct = sym (arm .before .before .before .before .is-indirect-at .ensures) ∙ arm .before .before .before .if1 .left in
-    c .accept2 .ensures ∙ rw (c .before .at-pointer .ensures) (search (key-is 2 register (arm .match .keys3), allowed, direct, cases))
+    rw (c .at-pointer .ensures) (search (key-is 2 register (arm .match .keys3), allowed, direct, cases))
 
 returns-6 : tie.Need-returns-6
-unfolding readSound
+unfolding readSound afterRead
 returns-6 c =
-    let arm = c .before .before .before .before in
+    let arm = c .before .before .before in
     let register = arm .before .before .before .before .before .args .register in
     let allowed = sym (arm .before .before .bars-read .ensures) ∙ arm .before .if2 .left in
     let direct = sym (arm .before .before .before .before .is-indirect-at .ensures) ∙ arm .before .before .before .if1 .left in
     let rest = arm .match .rest in
-    c .accept3 .ensures ∙ rw (c .before .byte .ensures, c .before .before .interrupts .ensures)
+    rw (c .byte .ensures, c .before .interrupts .ensures)
     (search (ne-eqb register 2 (rest .1), ne-eqb register 1 (rest .0 .1), ne-eqb register 0 (rest .0 .0 .1), allowed, direct, cases))
 
 pub read-sound-spec : {M : Type 1} → statement M
@@ -68,16 +69,11 @@ read-sound-spec =
     tie.close
     (tie.spec
     (λ c κs. search needs)
-    (λ c κs. search needs)
     returns
-    (λ c κs. search needs)
     (λ c κs. search needs)
     returns-2
     (λ c κs. search needs)
-    (λ c κs. search needs)
     read-data-requires
-    (λ c κs. search needs)
-    (λ c κs. search needs)
     (λ c κs. search needs)
     (λ c κs. search needs)
     (λ c κs. search needs)

@@ -13,9 +13,12 @@ returns c = search cases
 write-sound-requires : tie.Need-write-sound-requires
 write-sound-requires c κs = sym (c .before .is-sound .ensures) ∙ c .if2 .taken
 
+after-write-requires : tie.Need-after-write-requires
+after-write-requires c κs = sym (c .before .before .is-sound .ensures) ∙ c .before .if2 .taken
+
 returns-2 : tie.Need-returns-2
 unfolding writeOf
-returns-2 c = search (sym (c .before .before .is-sound .ensures) ∙ c .before .if2 .taken, cases)
+returns-2 c = c .after-write .ensures ∙ c .before .write-sound .ensures ∙ search (sym (c .before .before .before .is-sound .ensures) ∙ c .before .before .if2 .taken, cases)
 
 returns-3 : tie.Need-returns-3
 unfolding writeOf
@@ -29,6 +32,7 @@ write-spec =
     returns
     (λ c κs. search needs)
     write-sound-requires
+    after-write-requires
     (λ c κs. search needs)
     returns-2
     returns-3)

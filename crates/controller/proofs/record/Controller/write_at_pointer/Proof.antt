@@ -1,6 +1,6 @@
 -- `write_at_pointer` is `writeAtPointer`: what is known at each return settles the tests of the definition.
-use mathlib.Core.Path.{_∙_}
 use borrow.Author.Needs.{needs}
+use Rattle.controller.specs.Effect.{afterWrite}
 use Rattle.controller.specs.Registers.{writeAtPointer}
 use Rattle.notation.proofs.Cases.{cases}
 use Rattle.controller.proofs.record.Controller.write_at_pointer.Statement.{statement}
@@ -11,9 +11,8 @@ unfolding writeAtPointer
 returns c = search cases
 
 returns-2 : tie.Need-returns-2
-unfolding writeAtPointer
-returns-2 c = c .wrote .ensures ∙ rw (c .before .stored .ensures) (search cases)
+unfolding writeAtPointer afterWrite
+returns-2 c = search cases
 
 pub write-at-pointer-spec : {M : Type 1} → statement M
-write-at-pointer-spec =
-    tie.close (tie.spec (λ c κs. search needs) returns (λ c κs. search needs) (λ c κs. search needs) returns-2)
+write-at-pointer-spec = tie.close (tie.spec (λ c κs. search needs) returns returns-2)

@@ -2,6 +2,7 @@
 use mathlib.Core.Path.{_∙_}
 use borrow.Author.Needs.{needs}
 use Rattle.control.specs.Turn.{faults}
+use Rattle.controller.specs.Effect.{afterWrite}
 use Rattle.controller.specs.I2ccon.{writeFlags}
 use Rattle.notation.proofs.Among.{keys-in, none-of}
 use Rattle.notation.proofs.Cases.{cases}
@@ -9,10 +10,9 @@ use Rattle.controller.proofs.record.Controller.write_flags.Statement.{s
 use Rattle.controller.proofs.record.Controller.write_flags.Tie as tie
 
 returns : tie.Need-returns
-unfolding writeFlags
+unfolding writeFlags afterWrite
 returns c =
-    c .refuse .ensures ∙ rw (← (c .before .before .status .ensures))
-    (search (keys-in faults (c .before .before .status .result) (c .before .match .keys1), cases))
+    rw (← (c .before .status .ensures)) (search (keys-in faults (c .before .status .result) (c .match .keys1), cases))
 
 returns-2 : tie.Need-returns-2
 unfolding writeFlags
@@ -31,7 +31,6 @@ pub write-flags-spec : {M : Type 1} → statement M
 write-flags-spec =
     tie.close
     (tie.spec
-    (λ c κs. search needs)
     (λ c κs. search needs)
     (λ c κs. search needs)
     (λ c κs. search needs)

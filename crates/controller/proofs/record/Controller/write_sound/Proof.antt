@@ -3,32 +3,30 @@ use mathlib.Core.Path.{sym, _∙_}
 use borrow.Author.Needs.{needs}
 use borrow.Author.Tests.{ne-eqb}
 use Rattle.controller.specs.Access.{writeSound}
+use Rattle.controller.specs.Effect.{afterWrite}
+use Rattle.controller.specs.Registers.{writePointer}
 use Rattle.notation.proofs.Among.{key-is}
 use Rattle.notation.proofs.Cases.{cases}
-use Rattle.controller.proofs.SoundParts.{parts}
 use Rattle.controller.proofs.record.Controller.write_sound.Statement.{statement}
 use Rattle.controller.proofs.record.Controller.write_sound.Tie as tie
 
 returns : tie.Need-returns
-unfolding writeSound
-returns c = search (sym (c .before .before .is-indirect-at .ensures) ∙ c .before .if1 .taken, cases)
+unfolding writeSound afterWrite
+returns c = search (sym (c .before .is-indirect-at .ensures) ∙ c .if1 .taken, cases)
 
 returns-2 : tie.Need-returns-2
-unfolding writeSound
+unfolding writeSound afterWrite
 returns-2 c =
     search (
-      sym (c .before .before .bars-write .ensures) ∙ c .before .if2 .taken,
-      sym (c .before .before .before .before .is-indirect-at .ensures) ∙ c .before .before .before .if1 .left,
+      sym (c .before .bars-write .ensures) ∙ c .if2 .taken,
+      sym (c .before .before .before .is-indirect-at .ensures) ∙ c .before .before .if1 .left,
       cases,
     )
 
-write-data-requires : tie.Need-write-data-requires
-write-data-requires c κs = parts (c .before .before .before .before .before .args .self) (c .before .before .before .before .before .pre) .hand
-
 returns-3 : tie.Need-returns-3
-unfolding writeSound
+unfolding writeSound writePointer afterWrite
 returns-3 c =
-    let arm = c .before in
+    let arm = c in
     let register = arm .before .before .before .before .before .args .register in
     let allowed = sym (arm .before .before .bars-write .ensures) ∙ arm .before .if2 .left in
     let direct = sym (arm .before .before .before .before .is-indirect-at .ensures) ∙ arm .before .before .before .if1 .left in
@@ -67,13 +65,10 @@ write-sound-spec =
     tie.close
     (tie.spec
     (λ c κs. search needs)
-    (λ c κs. search needs)
     returns
-    (λ c κs. search needs)
     (λ c κs. search needs)
     returns-2
     (λ c κs. search needs)
-    write-data-requires
     (λ c κs. search needs)
     (λ c κs. search needs)
     returns-3

@@ -1,0 +1,54 @@
+-- What the answer of a rule makes of the record. Plumbing: in the code a rule answers what changes, and promises that this is the outcome
+-- document 01 gives.
+use mathlib.Core.Bool.{false}
+use Prim.Native.Nat.{_+_}
+use Rattle.answer.specs.Refusal.{refusalNumber}
+use Rattle.control.specs.declared.turn.Turn.the-variants.{Free}
+use Rattle.controller.specs.Condition.{withoutStop}
+use Rattle.controller.specs.Registers.{wrote, stored}
+use Rattle.controller.specs.Reply.{Outcome, refuses, accepts, waitsFor, interruptsAt, gives}
+use Rattle.controller.specs.Reset.{reset}
+use Rattle.controller.specs.Setters.{withPlace, withHand, withMoved, withPointer, withArmed, withRegisters, withControl, withTurn}
+use Rattle.controller.specs.Transfer.{counted, received}
+use Rattle.controller.specs.declared.effect.EventEffect.the-variants as event
+use Rattle.controller.specs.declared.effect.EventEffect.{EventEffect}
+use Rattle.controller.specs.declared.effect.ReadEffect.the-variants as read
+use Rattle.controller.specs.declared.effect.ReadEffect.{ReadEffect}
+use Rattle.controller.specs.declared.effect.Setting.{Setting}
+use Rattle.controller.specs.declared.effect.WriteEffect.the-variants as write
+use Rattle.controller.specs.declared.effect.WriteEffect.{WriteEffect}
+use Rattle.controller.specs.declared.record.Controller.{Controller}
+
+unfoldable pub afterRead : Controller → ReadEffect → Outcome
+afterRead c (read.Refused why) = refuses c (refusalNumber why)
+afterRead c (read.Kept value) = accepts c value
+afterRead c (read.Advanced value) = accepts (withHand c (c .hand + 1)) value
+
+-- flags and turn stored, hand place and moved count back at 0
+abbrev pub set : Controller → Setting → Controller
+set c s = withTurn (withControl (withMoved (withHand c 0) 0) (s .control)) (s .turn)
+
+unfoldable pub afterWrite : Controller → WriteEffect → Outcome
+afterWrite c (write.Refused why) = refuses c (refusalNumber why)
+afterWrite c (write.Pointed pointer) = wrote (withPointer c pointer)
+afterWrite c (write.Loaded byte) = wrote (withHand (withPlace c (c .hand) byte) (c .hand + 1))
+afterWrite c (write.Registered value) = wrote (withRegisters c (stored (c .registers) (c .pointer) value))
+afterWrite c (write.Armed armed) = accepts (withArmed c armed) 0
+afterWrite c (write.Controlled s) = wrote (set c s)
+afterWrite c write.Reset = accepts (reset c) 0
+
+-- own STOP
+abbrev pub stopped : Controller → Controller
+stopped c = withControl c (withoutStop (c .control))
+
+unfoldable pub afterEvent : Controller → EventEffect → Outcome
+afterEvent c (event.Refused why) = refuses c (refusalNumber why)
+afterEvent c event.Kept = accepts c 0
+afterEvent c (event.Waits turn value) = waitsFor c turn value
+afterEvent c event.Stopped = waitsFor (stopped c) Free 0
+afterEvent c (event.Interrupts status edge value) = interruptsAt c status edge value
+afterEvent c (event.Sent byte) = accepts (counted c) byte
+afterEvent c (event.SentLast status byte) = gives (counted c) status byte
+afterEvent c (event.Stored byte) = accepts (received c byte) 0
+afterEvent c (event.StoredLast status byte value) = gives (received c byte) status value
+afterEvent c event.Reset = accepts (reset c) 0

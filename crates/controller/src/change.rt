@@ -1,0 +1,109 @@
+// The record with what an effect changes.
+use crate::effect::Setting;
+use crate::record::Controller;
+use control::turn::Edge;
+use control::turn::Turn;
+ghost use mathlib.Core.Bool.{false};
+ghost use mathlib.Core.Path.{_≡_};
+ghost use Prim.Native.Nat.{_+_, _≤_};
+ghost use Rattle.control.specs.declared.turn.Edge.the-variants.{Stop};
+ghost use Rattle.control.specs.declared.turn.Turn.the-variants.{Host, Free};
+ghost use Rattle.controller.specs.Effect.{set as sets, stopped as stops};
+ghost use Rattle.controller.specs.Registers.{stored};
+ghost use Rattle.controller.specs.Setters.{withHand, withPointer, withArmed, withRegisters, withTurn};
+ghost use Rattle.controller.specs.Transfer.{counted};
+
+impl Controller {
+    pub fn turned(self, turn: Turn) -> Controller
+        ensures { λ r. ⌜ r ≡ withTurn self turn ⌝ }
+    {
+        let buffer = self.buffer;
+        let registers = self.registers;
+        let control = self.control;
+        Controller {
+            buffer,
+            hand: self.hand,
+            moved: self.moved,
+            pointer: self.pointer,
+            armed: self.armed,
+            registers,
+            control,
+            turn,
+        }
+    }
+
+    // Own STOP.
+    pub fn stopped(mut self) -> Controller
+        ensures { λ r. ⌜ r ≡ withTurn (stops self) Free ⌝ }
+    {
+        self.control.sto = false;
+        self.turned(Turn::Free)
+    }
+
+    // A status: the host's turn, and the hand place back at 0.
+    pub fn interrupted(mut self, status: u8, edge: Edge) -> Controller
+        ensures { λ r. ⌜ r ≡ withHand (withTurn self (Host status edge)) 0 ⌝ }
+    {
+        self.hand = 0;
+        self.turned(Turn::Host(status, edge))
+    }
+
+    // A data byte is counted, and its move ends with this status.
+    pub fn ended(mut self, status: u8) -> Controller
+        requires { ⌜ self .moved ≤ 68 ⌝ }
+        ensures { λ r. ⌜ r ≡ withHand (withTurn (counted self) (Host status Stop)) 0 ⌝ }
+    {
+        self.moved += 1;
+        self.interrupted(status, Edge::Stop)
+    }
+
+    // I2CDAT was written: the hand place goes on.
+    pub fn advanced(mut self) -> Controller
+        requires { ⌜ self .hand ≤ 68 ⌝ }
+        ensures { λ r. ⌜ r ≡ withArmed (withHand self (self .hand + 1)) false ⌝ }
+    {
+        self.hand += 1;
+        self.armed = false;
+        self
+    }
+
+    // INDPTR was written.
+    pub fn pointed(mut self, pointer: u8) -> Controller
+        ensures { λ r. ⌜ r ≡ withArmed (withPointer self pointer) false ⌝ }
+    {
+        self.pointer = pointer;
+        self.armed = false;
+        self
+    }
+
+    // The register at the pointer was written.
+    pub fn registered(mut self, value: u8) -> Controller
+        ensures { λ r. ⌜ r ≡ withArmed (withRegisters self (stored (self .registers) (self .pointer) value)) false ⌝ }
+    {
+        let pointer = self.pointer;
+        let registers = self.registers.stored(pointer, value);
+        self.registers = registers;
+        self.armed = false;
+        self
+    }
+
+    // I2CCON was written.
+    pub fn set(self, s: Setting) -> Controller
+        ensures { λ r. ⌜ r ≡ withArmed (sets self s) false ⌝ }
+    {
+        let buffer = self.buffer;
+        let registers = self.registers;
+        let control = s.control;
+        let turn = s.turn;
+        Controller {
+            buffer,
+            hand: 0,
+            moved: 0,
+            pointer: self.pointer,
+            armed: false,
+            registers,
+            control,
+            turn,
+        }
+    }
+}

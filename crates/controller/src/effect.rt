@@ -1,0 +1,141 @@
+// What an access or event changes, and no more. A rule reads the record and answers this, so that no rule copies the buffer.
+use crate::record::Controller;
+use answer::Answer;
+use answer::Refusal;
+use control::flags::Control;
+use control::turn::Edge;
+use control::turn::Turn;
+ghost use mathlib.Core.Path.{_≡_};
+ghost use Rattle.answer.specs.Refusal.{refusalNumber, refusalOf, valueOf};
+ghost use Rattle.control.specs.declared.turn.Edge.the-variants.{Stop};
+ghost use Rattle.controller.specs.Effect.{afterRead, afterWrite, afterEvent};
+ghost use Rattle.controller.specs.Reply.{refuses, waitsFor, interruptsAt};
+ghost use Rattle.controller.specs.declared.record.Controller.{Controller};
+
+pub enum ReadEffect {
+    Refused(Refusal),
+    // This is read, and nothing changes.
+    Kept(u8),
+    // This is read from I2CDAT, and the hand place goes on by one.
+    Advanced(u8),
+}
+
+// The flags and the turn that an accepted I2CCON write stores.
+pub struct Setting {
+    pub control: Control,
+    pub turn: Turn,
+}
+
+pub enum WriteEffect {
+    Refused(Refusal),
+    // INDPTR.
+    Pointed(u8),
+    // A byte at the hand place, which goes on by one.
+    Loaded(u8),
+    // The register at the pointer.
+    Registered(u8),
+    // The software reset is armed, or not.
+    Armed(bool),
+    // I2CCON; hand place and moved count go back to 0.
+    Controlled(Setting),
+    Reset,
+}
+
+pub enum EventEffect {
+    Refused(Refusal),
+    // Accepted, and nothing changes.
+    Kept,
+    // The controller waits for something else; the value.
+    Waits(Turn, u8),
+    // Own STOP: the bus is free, and STO is 0.
+    Stopped,
+    // A status and the edge that goes with it: the host's turn, and the hand place back at 0; the value.
+    Interrupts(u8, Edge, u8),
+    // A data byte went out and is counted; the move goes on.
+    Sent(u8),
+    // The same, and the move ends with this status.
+    SentLast(u8, u8),
+    // A data byte came in, is stored at the cursor and counted; the move goes on.
+    Stored(u8),
+    // The same, and the move ends with this status; the value.
+    StoredLast(u8, u8, u8),
+    Reset,
+}
+
+impl ReadEffect {
+    pub fn answer(self) -> Answer
+        ensures refused { λ r. ⌜ ((c : Controller) → refusalOf r ≡ (afterRead c self) .refused) ⌝ }
+        ensures value { λ r. ⌜ ((c : Controller) → valueOf r ≡ (afterRead c self) .value) ⌝ }
+    {
+        match self {
+            ReadEffect::Refused(why) => Answer::Refused(why),
+            ReadEffect::Kept(value) => Answer::Accepted(value),
+            ReadEffect::Advanced(value) => Answer::Accepted(value),
+        }
+    }
+}
+
+impl WriteEffect {
+    pub fn answer(self) -> Answer
+        ensures refused { λ r. ⌜ ((c : Controller) → refusalOf r ≡ (afterWrite c self) .refused) ⌝ }
+        ensures value { λ r. ⌜ ((c : Controller) → valueOf r ≡ (afterWrite c self) .value) ⌝ }
+    {
+        match self {
+            WriteEffect::Refused(why) => Answer::Refused(why),
+            WriteEffect::Pointed(_) => Answer::Accepted(0),
+            WriteEffect::Loaded(_) => Answer::Accepted(0),
+            WriteEffect::Registered(_) => Answer::Accepted(0),
+            WriteEffect::Armed(_) => Answer::Accepted(0),
+            WriteEffect::Controlled(_) => Answer::Accepted(0),
+            WriteEffect::Reset => Answer::Accepted(0),
+        }
+    }
+}
+
+impl EventEffect {
+    pub fn answer(self) -> Answer
+        ensures refused { λ r. ⌜ ((c : Controller) → refusalOf r ≡ (afterEvent c self) .refused) ⌝ }
+        ensures value { λ r. ⌜ ((c : Controller) → valueOf r ≡ (afterEvent c self) .value) ⌝ }
+    {
+        match self {
+            EventEffect::Refused(why) => Answer::Refused(why),
+            EventEffect::Kept => Answer::Accepted(0),
+            EventEffect::Waits(_, value) => Answer::Accepted(value),
+            EventEffect::Stopped => Answer::Accepted(0),
+            EventEffect::Interrupts(_, _, value) => Answer::Accepted(value),
+            EventEffect::Sent(byte) => Answer::Accepted(byte),
+            EventEffect::SentLast(_, byte) => Answer::Accepted(byte),
+            EventEffect::Stored(_) => Answer::Accepted(0),
+            EventEffect::StoredLast(_, _, value) => Answer::Accepted(value),
+            EventEffect::Reset => Answer::Accepted(0),
+        }
+    }
+}
+
+// The few ways in which a rule of an event ends.
+impl Controller {
+    pub(crate) fn refuse(self, why: Refusal) -> EventEffect
+        ensures { λ r. ⌜ afterEvent self r ≡ refuses self (refusalNumber why) ⌝ }
+    {
+        EventEffect::Refused(why)
+    }
+
+    pub(crate) fn wait_for(self, turn: Turn, value: u8) -> EventEffect
+        ensures { λ r. ⌜ afterEvent self r ≡ waitsFor self turn value ⌝ }
+    {
+        EventEffect::Waits(turn, value)
+    }
+
+    pub(crate) fn interrupt(self, status: u8, edge: Edge, value: u8) -> EventEffect
+        ensures { λ r. ⌜ afterEvent self r ≡ interruptsAt self status edge value ⌝ }
+    {
+        EventEffect::Interrupts(status, edge, value)
+    }
+
+    // Any status but A0h: the edge does not matter there.
+    pub(crate) fn give(self, status: u8, value: u8) -> EventEffect
+        ensures { λ r. ⌜ afterEvent self r ≡ interruptsAt self status Stop value ⌝ }
+    {
+        self.interrupt(status, Edge::Stop, value)
+    }
+}
