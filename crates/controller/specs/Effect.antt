@@ -3,13 +3,15 @@
 use mathlib.Core.Bool.{false}
 use Prim.Native.Nat.{_+_}
 use Rattle.answer.specs.Refusal.{refusalNumber}
-use Rattle.control.specs.declared.turn.Turn.the-variants.{Free}
+use Rattle.control.specs.declared.turn.Turn.the-variants.{Free, Busy, Listen}
 use Rattle.controller.specs.Condition.{withoutStop}
 use Rattle.controller.specs.Registers.{wrote, stored}
 use Rattle.controller.specs.Reply.{Outcome, refuses, accepts, waitsFor, interruptsAt, gives}
 use Rattle.controller.specs.Reset.{reset}
 use Rattle.controller.specs.Setters.{withPlace, withHand, withMoved, withPointer, withArmed, withRegisters, withControl, withTurn}
 use Rattle.controller.specs.Transfer.{counted, received}
+use Rattle.controller.specs.declared.effect.ControlEffect.the-variants as control
+use Rattle.controller.specs.declared.effect.ControlEffect.{ControlEffect}
 use Rattle.controller.specs.declared.effect.EventEffect.the-variants as event
 use Rattle.controller.specs.declared.effect.EventEffect.{EventEffect}
 use Rattle.controller.specs.declared.effect.ReadEffect.the-variants as read
@@ -28,13 +30,17 @@ afterRead c (read.Advanced value) = accepts (withHand c (c .hand + 1)) value
 abbrev pub set : Controller → Setting → Controller
 set c s = withTurn (withControl (withMoved (withHand c 0) 0) (s .control)) (s .turn)
 
+unfoldable pub afterControl : Controller → ControlEffect → Outcome
+afterControl c (control.Refused why) = refuses c (refusalNumber why)
+afterControl c (control.Set s) = wrote (set c s)
+
 unfoldable pub afterWrite : Controller → WriteEffect → Outcome
 afterWrite c (write.Refused why) = refuses c (refusalNumber why)
 afterWrite c (write.Pointed pointer) = wrote (withPointer c pointer)
 afterWrite c (write.Loaded byte) = wrote (withHand (withPlace c (c .hand) byte) (c .hand + 1))
 afterWrite c (write.Registered value) = wrote (withRegisters c (stored (c .registers) (c .pointer) value))
 afterWrite c (write.Armed armed) = accepts (withArmed c armed) 0
-afterWrite c (write.Controlled s) = wrote (set c s)
+afterWrite c (write.Set s) = wrote (set c s)
 afterWrite c write.Reset = accepts (reset c) 0
 
 -- own STOP
@@ -44,7 +50,9 @@ stopped c = withControl c (withoutStop (c .control))
 unfoldable pub afterEvent : Controller → EventEffect → Outcome
 afterEvent c (event.Refused why) = refuses c (refusalNumber why)
 afterEvent c event.Kept = accepts c 0
-afterEvent c (event.Waits turn value) = waitsFor c turn value
+afterEvent c event.Listen = waitsFor c Listen 0
+afterEvent c event.Busy = waitsFor c Busy 1
+afterEvent c event.Free = waitsFor c Free 0
 afterEvent c event.Stopped = waitsFor (stopped c) Free 0
 afterEvent c (event.Interrupts status edge value) = interruptsAt c status edge value
 afterEvent c (event.Sent byte) = accepts (counted c) byte

@@ -1,4 +1,5 @@
 // Reading and writing any register.
+use crate::effect::ControlEffect;
 use crate::effect::ReadEffect;
 use crate::effect::WriteEffect;
 use crate::record::Controller;
@@ -7,7 +8,7 @@ use answer::Refusal;
 ghost use mathlib.Core.Path.{_≡_};
 ghost use mathlib.Core.Bool.{true};
 ghost use Rattle.controller.specs.Record.{sound};
-ghost use Rattle.controller.specs.Effect.{afterRead, afterWrite};
+ghost use Rattle.controller.specs.Effect.{afterRead, afterControl, afterWrite};
 ghost use Rattle.controller.specs.Reply.{outcomeOf};
 ghost use Rattle.controller.specs.Access.{barsRead, barsWrite, indirectAt, readSound, readOf, writeSound, writeOf};
 
@@ -111,8 +112,20 @@ impl Controller {
             0 => WriteEffect::Pointed(value % 8),
             1 => self.write_data(value),
             2 => self.write_at_pointer(value),
-            _ => self.write_control(value),
+            _ => self.write_control(value).widen(),
         }
+    }
+
+    // What any value, written to I2CCON of a sound record, changes.
+    pub fn control_effect(self, value: u8) -> ControlEffect
+        requires { ⌜ sound self ≡ true ⌝ }
+        ensures { λ r. ⌜ afterControl self r ≡ writeOf self 3 value ⌝ }
+    {
+        let turn = self.turn;
+        if turn.on_wire() {
+            return ControlEffect::Refused(Refusal::OnTheWire);
+        }
+        self.write_control(value)
     }
 
     // What any value, written to any register of a sound record, changes.

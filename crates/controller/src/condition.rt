@@ -38,7 +38,7 @@ impl Controller {
     {
         let turn = self.turn;
         match turn {
-            Turn::Free | Turn::Busy => self.wait_for(Turn::Listen, 0),
+            Turn::Free | Turn::Busy => EventEffect::Listen,
             Turn::Restarting => self.give(0x10, 0),
             Turn::SlaveReceive(_) => self.interrupt(0xA0, Edge::Start, 0),
             _ => self.refuse(Refusal::Unexpected),
@@ -51,7 +51,7 @@ impl Controller {
     {
         let turn = self.turn;
         match turn {
-            Turn::Busy => self.wait_for(Turn::Free, 0),
+            Turn::Busy => EventEffect::Free,
             Turn::SlaveReceive(_) => self.interrupt(0xA0, Edge::Stop, 0),
             _ => self.refuse(Refusal::Unexpected),
         }
@@ -85,7 +85,7 @@ impl Controller {
                 Direction::Write => self.give(0x60, 0),
                 Direction::Read => self.give(0xA8, 0),
             },
-            Match::Nothing => self.wait_for(Turn::Busy, 1),
+            Match::Nothing => EventEffect::Busy,
         }
     }
 

@@ -8,8 +8,8 @@ use control::turn::Turn;
 ghost use mathlib.Core.Path.{_≡_};
 ghost use Rattle.answer.specs.Refusal.{refusalNumber, refusalOf, valueOf};
 ghost use Rattle.control.specs.declared.turn.Edge.the-variants.{Stop};
-ghost use Rattle.controller.specs.Effect.{afterRead, afterWrite, afterEvent};
-ghost use Rattle.controller.specs.Reply.{refuses, waitsFor, interruptsAt};
+ghost use Rattle.controller.specs.Effect.{afterRead, afterControl, afterWrite, afterEvent};
+ghost use Rattle.controller.specs.Reply.{refuses, interruptsAt};
 ghost use Rattle.controller.specs.declared.record.Controller.{Controller};
 
 pub enum ReadEffect {
@@ -26,6 +26,12 @@ pub struct Setting {
     pub turn: Turn,
 }
 
+// Of I2CCON alone.
+pub enum ControlEffect {
+    Refused(Refusal),
+    Set(Setting),
+}
+
 pub enum WriteEffect {
     Refused(Refusal),
     // INDPTR.
@@ -37,7 +43,7 @@ pub enum WriteEffect {
     // The software reset is armed, or not.
     Armed(bool),
     // I2CCON; hand place and moved count go back to 0.
-    Controlled(Setting),
+    Set(Setting),
     Reset,
 }
 
@@ -45,8 +51,11 @@ pub enum EventEffect {
     Refused(Refusal),
     // Accepted, and nothing changes.
     Kept,
-    // The controller waits for something else; the value.
-    Waits(Turn, u8),
+    // The controller waits in this turn now: after another's START, after an address byte that it does not match (a NACK, the value 1),
+    // and after another's STOP.
+    Listen,
+    Busy,
+    Free,
     // Own STOP: the bus is free, and STO is 0.
     Stopped,
     // A status and the edge that goes with it: the host's turn, and the hand place back at 0; the value.
@@ -75,6 +84,18 @@ impl ReadEffect {
     }
 }
 
+impl ControlEffect {
+    // As of any register.
+    pub(crate) fn widen(self) -> WriteEffect
+        ensures { λ r. ⌜ ((c : Controller) → afterWrite c r ≡ afterControl c self) ⌝ }
+    {
+        match self {
+            ControlEffect::Refused(why) => WriteEffect::Refused(why),
+            ControlEffect::Set(s) => WriteEffect::Set(s),
+        }
+    }
+}
+
 impl WriteEffect {
     pub fn answer(self) -> Answer
         ensures refused { λ r. ⌜ ((c : Controller) → refusalOf r ≡ (afterWrite c self) .refused) ⌝ }
@@ -86,7 +107,7 @@ impl WriteEffect {
             WriteEffect::Loaded(_) => Answer::Accepted(0),
             WriteEffect::Registered(_) => Answer::Accepted(0),
             WriteEffect::Armed(_) => Answer::Accepted(0),
-            WriteEffect::Controlled(_) => Answer::Accepted(0),
+            WriteEffect::Set(_) => Answer::Accepted(0),
             WriteEffect::Reset => Answer::Accepted(0),
         }
     }
@@ -100,7 +121,9 @@ impl EventEffect {
         match self {
             EventEffect::Refused(why) => Answer::Refused(why),
             EventEffect::Kept => Answer::Accepted(0),
-            EventEffect::Waits(_, value) => Answer::Accepted(value),
+            EventEffect::Listen => Answer::Accepted(0),
+            EventEffect::Busy => Answer::Accepted(1),
+            EventEffect::Free => Answer::Accepted(0),
             EventEffect::Stopped => Answer::Accepted(0),
             EventEffect::Interrupts(_, _, value) => Answer::Accepted(value),
             EventEffect::Sent(byte) => Answer::Accepted(byte),
@@ -118,12 +141,6 @@ impl Controller {
         ensures { λ r. ⌜ afterEvent self r ≡ refuses self (refusalNumber why) ⌝ }
     {
         EventEffect::Refused(why)
-    }
-
-    pub(crate) fn wait_for(self, turn: Turn, value: u8) -> EventEffect
-        ensures { λ r. ⌜ afterEvent self r ≡ waitsFor self turn value ⌝ }
-    {
-        EventEffect::Waits(turn, value)
     }
 
     pub(crate) fn interrupt(self, status: u8, edge: Edge, value: u8) -> EventEffect

@@ -1,6 +1,6 @@
 // Writing I2CCON.
+use crate::effect::ControlEffect;
 use crate::effect::Setting;
-use crate::effect::WriteEffect;
 use crate::record::Controller;
 use answer::Refusal;
 use control::flags::Control;
@@ -8,7 +8,7 @@ use control::turn::Turn;
 use control::writing::Response;
 use control::writing::respond;
 ghost use mathlib.Core.Path.{_≡_};
-ghost use Rattle.controller.specs.Effect.{afterWrite};
+ghost use Rattle.controller.specs.Effect.{afterControl};
 ghost use Rattle.controller.specs.I2ccon.{keeps, controlled, badCount, enabled, writeFlags, writeControl};
 
 // The flags that a write leaves: STO is stored only where it leads to Stopping.
@@ -29,12 +29,12 @@ fn keep(old: Control, k: Control, turn: Turn) -> Control
 
 impl Controller {
     // An accepted write.
-    fn controlled(self, k: Control, turn: Turn) -> WriteEffect
-        ensures { λ r. ⌜ afterWrite self r ≡ controlled self k turn ⌝ }
+    fn controlled(self, k: Control, turn: Turn) -> ControlEffect
+        ensures { λ r. ⌜ afterControl self r ≡ controlled self k turn ⌝ }
     {
         let old = self.control;
         let control = keep(old, k, turn);
-        WriteEffect::Controlled(Setting { control, turn })
+        ControlEffect::Set(Setting { control, turn })
     }
 
     // The write would start a buffered data move, and BC is not 1..68.
@@ -52,14 +52,14 @@ impl Controller {
     }
 
     // A write with ENSIO 1.
-    fn enabled(self, k: Control, response: Response) -> WriteEffect
-        ensures { λ r. ⌜ afterWrite self r ≡ enabled self k response ⌝ }
+    fn enabled(self, k: Control, response: Response) -> ControlEffect
+        ensures { λ r. ⌜ afterControl self r ≡ enabled self k response ⌝ }
     {
         match response {
-            Response::Unlisted => WriteEffect::Refused(Refusal::Unlisted),
+            Response::Unlisted => ControlEffect::Refused(Refusal::Unlisted),
             Response::Next(turn) => {
                 if self.bad_count(k, turn) {
-                    WriteEffect::Refused(Refusal::BadCount)
+                    ControlEffect::Refused(Refusal::BadCount)
                 } else {
                     self.controlled(k, turn)
                 }
@@ -67,13 +67,13 @@ impl Controller {
         }
     }
 
-    fn write_flags(self, k: Control) -> WriteEffect
-        ensures { λ r. ⌜ afterWrite self r ≡ writeFlags self k ⌝ }
+    fn write_flags(self, k: Control) -> ControlEffect
+        ensures { λ r. ⌜ afterControl self r ≡ writeFlags self k ⌝ }
     {
         let turn = self.turn;
         let status = turn.status();
         match status {
-            0x00 | 0x70 | 0x78 => WriteEffect::Refused(Refusal::Locked),
+            0x00 | 0x70 | 0x78 => ControlEffect::Refused(Refusal::Locked),
             _ => {
                 if k.ensio {
                     let response = respond(turn, k);
@@ -87,8 +87,8 @@ impl Controller {
         }
     }
 
-    pub(crate) fn write_control(self, value: u8) -> WriteEffect
-        ensures { λ r. ⌜ afterWrite self r ≡ writeControl self value ⌝ }
+    pub(crate) fn write_control(self, value: u8) -> ControlEffect
+        ensures { λ r. ⌜ afterControl self r ≡ writeControl self value ⌝ }
     {
         self.write_flags(Control::of_byte(value))
     }

@@ -6,6 +6,7 @@ use crate::record::Controller;
 use answer::Answer;
 use answer::Refusal;
 use control::turn::Edge;
+use control::turn::Turn;
 ghost use mathlib.Core.Bool.{true};
 ghost use mathlib.Core.Path.{_≡_};
 ghost use Rattle.answer.specs.Refusal.{refusalNumber};
@@ -78,7 +79,7 @@ impl Controller {
                 self.armed = armed;
                 self.accepted(0)
             }
-            WriteEffect::Controlled(s) => self.set(s).accepted(0),
+            WriteEffect::Set(s) => self.set(s).accepted(0),
             WriteEffect::Reset => self.reset().accepted(0),
         }
     }
@@ -90,7 +91,9 @@ impl Controller {
         match effect {
             EventEffect::Refused(why) => self.refused(why),
             EventEffect::Kept => self.accepted(0),
-            EventEffect::Waits(turn, value) => self.turned(turn).accepted(value),
+            EventEffect::Listen => self.turned(Turn::Listen).accepted(0),
+            EventEffect::Busy => self.turned(Turn::Busy).accepted(1),
+            EventEffect::Free => self.turned(Turn::Free).accepted(0),
             EventEffect::Stopped => self.stopped().accepted(0),
             EventEffect::Interrupts(status, edge, value) => self.interrupted(status, edge)
                 .accepted(value),

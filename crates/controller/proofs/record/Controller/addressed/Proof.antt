@@ -2,6 +2,7 @@
 use mathlib.Core.Path.{_∙_}
 use borrow.Author.Needs.{needs}
 use Rattle.controller.specs.Condition.{addressed}
+use Rattle.controller.specs.Effect.{afterEvent}
 use Rattle.controller.proofs.record.Controller.addressed.Statement.{statement}
 use Rattle.controller.proofs.record.Controller.addressed.Tie as tie
 
@@ -18,8 +19,8 @@ unfolding addressed
 returns-3 c = c .give3 .ensures ∙ rw (c .before .before .before .before .found .given .1, c .before .enum-told3 .given .1)
 
 returns-4 : tie.Need-returns-4
-unfolding addressed
-returns-4 c = c .wait-for .ensures ∙ rw (c .before .enum-told4 .given .1)
+unfolding addressed afterEvent
+returns-4 c = rw (c .enum-told4 .given .1)
 
 pub addressed-spec : {M : Type 1} → statement M
 addressed-spec =
@@ -33,7 +34,6 @@ addressed-spec =
     (λ c. search needs)
     (λ c κs. search needs)
     (λ c. search needs)
-    (λ c κs. search needs)
     returns
     returns-2
     returns-3

@@ -32,35 +32,43 @@ returns-2 c = c .accepted .ensures ∙ rw (c .before .enum-told .given .1)
 
 returns-3 : tie.Need-returns-3
 unfolding afterEvent waitsFor
-returns-3 c = c .accepted2 .ensures ∙ rw (c .before .turned .ensures, c .before .before .before .effect2 .given .1)
+returns-3 c = c .accepted2 .ensures ∙ rw (c .before .turned .ensures, c .before .before .enum-told2 .given .1)
 
 returns-4 : tie.Need-returns-4
 unfolding afterEvent waitsFor
-returns-4 c = c .accepted3 .ensures ∙ rw (c .before .stopped .ensures, c .before .before .enum-told2 .given .1)
+returns-4 c = c .accepted3 .ensures ∙ rw (c .before .turned2 .ensures, c .before .before .enum-told3 .given .1)
 
 returns-5 : tie.Need-returns-5
-unfolding afterEvent interruptsAt
-returns-5 c = c .accepted4 .ensures ∙ rw (c .before .interrupted .ensures, c .before .before .before .effect3 .given .1)
+unfolding afterEvent waitsFor
+returns-5 c = c .accepted4 .ensures ∙ rw (c .before .turned3 .ensures, c .before .before .enum-told4 .given .1)
 
 returns-6 : tie.Need-returns-6
-unfolding afterEvent
-returns-6 c = c .accepted5 .ensures ∙ rw (c .before .before .before .effect4 .given .1)
+unfolding afterEvent waitsFor
+returns-6 c = c .accepted5 .ensures ∙ rw (c .before .stopped .ensures, c .before .before .enum-told5 .given .1)
 
 returns-7 : tie.Need-returns-7
 unfolding afterEvent interruptsAt
-returns-7 c = c .accepted6 .ensures ∙ rw (c .before .ended .ensures, c .before .before .before .effect5 .given .1)
+returns-7 c = c .accepted6 .ensures ∙ rw (c .before .interrupted .ensures, c .before .before .before .effect2 .given .1)
 
 returns-8 : tie.Need-returns-8
-unfolding afterEvent received
-returns-8 c = c .accepted7 .ensures ∙ rw (c .before .before .with-place .ensures, c .before .before .before .cursor .ensures, c .before .before .before .before .before .effect6 .given .1)
+unfolding afterEvent
+returns-8 c = c .accepted7 .ensures ∙ rw (c .before .before .before .effect3 .given .1)
 
 returns-9 : tie.Need-returns-9
-unfolding afterEvent interruptsAt received
-returns-9 c = c .accepted8 .ensures ∙ rw (c .before .ended2 .ensures, c .before .before .with-place2 .ensures, c .before .before .before .cursor2 .ensures, c .before .before .before .before .before .effect7 .given .1)
+unfolding afterEvent interruptsAt
+returns-9 c = c .accepted8 .ensures ∙ rw (c .before .ended .ensures, c .before .before .before .effect4 .given .1)
 
 returns-10 : tie.Need-returns-10
+unfolding afterEvent received
+returns-10 c = c .accepted9 .ensures ∙ rw (c .before .before .with-place .ensures, c .before .before .before .cursor .ensures, c .before .before .before .before .before .effect5 .given .1)
+
+returns-11 : tie.Need-returns-11
+unfolding afterEvent interruptsAt received
+returns-11 c = c .accepted10 .ensures ∙ rw (c .before .ended2 .ensures, c .before .before .with-place2 .ensures, c .before .before .before .cursor2 .ensures, c .before .before .before .before .before .effect6 .given .1)
+
+returns-12 : tie.Need-returns-12
 unfolding afterEvent
-returns-10 c = c .accepted9 .ensures ∙ rw (c .before .reset .ensures, c .before .before .enum-told3 .given .1)
+returns-12 c = c .accepted11 .ensures ∙ rw (c .before .reset .ensures, c .before .before .enum-told6 .given .1)
 
 pub after-event-spec : {M : Type 1} → statement M
 after-event-spec =
@@ -69,6 +77,12 @@ after-event-spec =
     (λ c. search needs)
     (λ c κs. search needs)
     (λ c. search needs)
+    (λ c κs. search needs)
+    (λ c. search needs)
+    (λ c κs. search needs)
+    (λ c κs. search needs)
+    (λ c. search needs)
+    (λ c κs. search needs)
     (λ c κs. search needs)
     (λ c. search needs)
     (λ c κs. search needs)
@@ -107,4 +121,6 @@ after-event-spec =
     returns-7
     returns-8
     returns-9
-    returns-10)
+    returns-10
+    returns-11
+    returns-12)

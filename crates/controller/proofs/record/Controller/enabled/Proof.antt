@@ -1,18 +1,18 @@
 -- `enabled` is `enabled`: what is known at each return settles the tests of the definition.
 use mathlib.Core.Path.{sym, _∙_}
 use borrow.Author.Needs.{needs}
-use Rattle.controller.specs.Effect.{afterWrite}
+use Rattle.controller.specs.Effect.{afterControl}
 use Rattle.controller.specs.I2ccon.{enabled}
 use Rattle.notation.proofs.Cases.{cases}
 use Rattle.controller.proofs.record.Controller.enabled.Statement.{statement}
 use Rattle.controller.proofs.record.Controller.enabled.Tie as tie
 
 returns : tie.Need-returns
-unfolding enabled afterWrite
+unfolding enabled afterControl
 returns c = rw (c .enum-told .given .1)
 
 returns-2 : tie.Need-returns-2
-unfolding enabled afterWrite
+unfolding enabled afterControl
 returns-2 c = rw (c .before .before .before .response .given .1) (search (sym (c .before .bad-count .ensures) ∙ c .if1 .taken, cases))
 
 returns-3 : tie.Need-returns-3

@@ -4,13 +4,14 @@ use borrow.Author.Needs.{needs}
 use Rattle.control.proofs.Turning.{at-turn, at-turns, except}
 use Rattle.control.specs.Turn.{free, busy, slaveReceive, restarting}
 use Rattle.controller.specs.Condition.{otherStart}
+use Rattle.controller.specs.Effect.{afterEvent}
 use Rattle.notation.proofs.Cases.{cases}
 use Rattle.controller.proofs.record.Controller.other_start.Statement.{statement}
 use Rattle.controller.proofs.record.Controller.other_start.Tie as tie
 
 returns : tie.Need-returns
-unfolding otherStart
-returns c = search (at-turns (free ∷ busy ∷ []) (c .before .before .args .self .turn) (c .before .match .keys1), cases)
+unfolding otherStart afterEvent
+returns c = search (at-turns (free ∷ busy ∷ []) (c .before .args .self .turn) (c .match .keys1), cases)
 
 returns-2 : tie.Need-returns-2
 unfolding otherStart
@@ -28,7 +29,6 @@ pub other-start-spec : {M : Type 1} → statement M
 other-start-spec =
     tie.close
     (tie.spec
-    (λ c κs. search needs)
     (λ c. search needs)
     (λ c κs. search needs)
     (λ c. search needs)

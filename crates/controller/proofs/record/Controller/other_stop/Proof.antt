@@ -4,13 +4,14 @@ use borrow.Author.Needs.{needs}
 use Rattle.control.proofs.Turning.{at-turn, at-turns, except}
 use Rattle.control.specs.Turn.{busy, slaveReceive}
 use Rattle.controller.specs.Condition.{otherStop}
+use Rattle.controller.specs.Effect.{afterEvent}
 use Rattle.notation.proofs.Cases.{cases}
 use Rattle.controller.proofs.record.Controller.other_stop.Statement.{statement}
 use Rattle.controller.proofs.record.Controller.other_stop.Tie as tie
 
 returns : tie.Need-returns
-unfolding otherStop
-returns c = search (at-turn busy (c .before .before .before .args .self .turn) (c .before .before .match .keys1), cases)
+unfolding otherStop afterEvent
+returns c = search (at-turn busy (c .before .before .args .self .turn) (c .before .match .keys1), cases)
 
 returns-2 : tie.Need-returns-2
 unfolding otherStop
@@ -23,12 +24,4 @@ returns-3 c = search (at-turns (except (busy ∷ slaveReceive ∷ [])) (c .befor
 pub other-stop-spec : {M : Type 1} → statement M
 other-stop-spec =
     tie.close
-    (tie.spec
-    (λ c. search needs)
-    (λ c κs. search needs)
-    (λ c. search needs)
-    (λ c κs. search needs)
-    (λ c κs. search needs)
-    returns
-    returns-2
-    returns-3)
+    (tie.spec (λ c. search needs) (λ c. search needs) (λ c κs. search needs) (λ c κs. search needs) returns returns-2 returns-3)

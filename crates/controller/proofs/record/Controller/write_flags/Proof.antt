@@ -2,7 +2,7 @@
 use mathlib.Core.Path.{_∙_}
 use borrow.Author.Needs.{needs}
 use Rattle.control.specs.Turn.{faults}
-use Rattle.controller.specs.Effect.{afterWrite}
+use Rattle.controller.specs.Effect.{afterControl}
 use Rattle.controller.specs.I2ccon.{writeFlags}
 use Rattle.notation.proofs.Among.{keys-in, none-of}
 use Rattle.notation.proofs.Cases.{cases}
@@ -10,7 +10,7 @@ use Rattle.controller.proofs.record.Controller.write_flags.Statement.{s
 use Rattle.controller.proofs.record.Controller.write_flags.Tie as tie
 
 returns : tie.Need-returns
-unfolding writeFlags afterWrite
+unfolding writeFlags afterControl
 returns c =
     rw (← (c .before .status .ensures)) (search (keys-in faults (c .before .status .result) (c .match .keys1), cases))
 

@@ -53,11 +53,12 @@ returns-5 c =
 returns-6 : tie.Need-returns-6
 unfolding writeSound
 returns-6 c =
-    let arm = c .before in
+    let arm = c .before .before in
     let register = arm .before .before .before .before .before .args .register in
     let allowed = sym (arm .before .before .bars-write .ensures) ∙ arm .before .if2 .left in
     let direct = sym (arm .before .before .before .before .is-indirect-at .ensures) ∙ arm .before .before .before .if1 .left in
     let rest = arm .match .rest in
+    c .widen .ensures _ ∙ c .before .write-control .ensures ∙
     search (ne-eqb register 2 (rest .1), ne-eqb register 1 (rest .0 .1), ne-eqb register 0 (rest .0 .0 .1), allowed, direct, cases)
 
 pub write-sound-spec : {M : Type 1} → statement M
@@ -68,6 +69,7 @@ write-sound-spec =
     returns
     (λ c κs. search needs)
     returns-2
+    (λ c κs. search needs)
     (λ c κs. search needs)
     (λ c κs. search needs)
     (λ c κs. search needs)
