@@ -5,4 +5,5 @@ pub mod Kept
 pub mod KeptEvents
 pub mod KeptAccesses
 pub mod Soundness
+pub mod InPlace
 pub mod Status
