@@ -2,15 +2,15 @@
 
 use crate::difference::{Difference, Named, first, hex};
 use crate::job_case::JobCase;
-use crate::reference;
+use crate::side::{LIBRARY, MODEL, Side};
 use crate::trace_case::TraceCase;
-use perlovasta::{ENTRY_LEN, GROUP_LEN, sys};
+use perlovasta::{ENTRY_LEN, GROUP_LEN};
 
 /// Runs the trace on both. True if it was run; the log is then in the case.
 pub fn trace(case: &mut TraceCase) -> Result<bool, Difference> {
     let mut model_log = case.log.clone();
-    let given = sys::trace(&case.trace, &mut case.log);
-    let model_given = reference::trace(&case.trace, &mut model_log);
+    let given = (LIBRARY.trace)(&case.trace, &mut case.log);
+    let model_given = (MODEL.trace)(&case.trace, &mut model_log);
 
     let returned = [u8::from(given), u8::from(model_given)];
     let library: [Named; 2] = [("returned", &returned[..1]), ("log", &case.log)];
@@ -43,22 +43,8 @@ fn groups_until(trace: &[u8], library: &[u8], model: &[u8]) -> String {
 pub fn job(case: &mut JobCase) -> Result<bool, Difference> {
     let before = case.clone();
     let mut other = case.clone();
-    let given = sys::job(
-        case.kind,
-        case.address,
-        case.n,
-        &case.data,
-        &mut case.destination,
-        &mut case.out,
-        &case.script,
-        &mut case.report,
-    );
-    let model_given = reference::job(
-        &before.input(),
-        &mut other.destination,
-        &mut other.out,
-        &mut other.report,
-    );
+    let given = call(LIBRARY, case);
+    let model_given = call(MODEL, &mut other);
     let library = [u8::from(given)];
     let model = [u8::from(model_given)];
     match first(&written(&library, case), &written(&model, &other)) {
@@ -68,6 +54,19 @@ pub fn job(case: &mut JobCase) -> Result<bool, Difference> {
             place,
         }),
     }
+}
+
+fn call(side: Side, case: &mut JobCase) -> bool {
+    (side.job)(
+        case.kind,
+        case.address,
+        case.n,
+        &case.data,
+        &mut case.destination,
+        &mut case.out,
+        &case.script,
+        &mut case.report,
+    )
 }
 
 /// All that a job may write.

@@ -1,7 +1,6 @@
 //! Random jobs: mostly well formed, at times with flaws that the answer 21 is for.
 
 use crate::random::Random;
-use crate::reference::Input;
 use crate::script::random_script;
 use crate::steer::pair;
 use model::{Job, Kind};
@@ -166,17 +165,6 @@ impl JobCase {
         ];
         let found = wrong.into_iter().filter(|&(_, wrong)| wrong);
         found.map(|(flaw, _)| flaw).collect()
-    }
-
-    /// What both sides are given.
-    pub fn input(&self) -> Input<'_> {
-        Input {
-            kind: self.kind,
-            address: self.address,
-            n: self.n,
-            data: &self.data,
-            script: &self.script,
-        }
     }
 }
 

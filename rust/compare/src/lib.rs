@@ -1,5 +1,6 @@
 //! The proved library beside the independent model: the same inputs to both, and what they give
-//! compared byte for byte (binary `compare`) or timed (binary `speed`).
+//! compared byte for byte (binary `compare`), timed (`speed`; on ever longer inputs `scale`), or
+//! called for their instructions to be counted (`calls`).
 
 #![forbid(unsafe_code)]
 #![warn(missing_docs)]
@@ -8,12 +9,16 @@ pub mod check;
 pub mod difference;
 pub mod group;
 pub mod job_case;
+pub mod memory;
 pub mod random;
 pub mod reference;
+pub mod row;
 pub mod rows;
 pub mod run;
+pub mod scale;
 pub mod script;
 pub mod sections;
+pub mod side;
 pub mod steer;
 pub mod table;
 pub mod tally;

@@ -4,50 +4,46 @@ use crate::group::{CONTROL, Group, READ, WRITE};
 use model::{Called, Controller, Edge, Job, Kind, Refusal, Report, Turn, run_job};
 use perlovasta::{ENTRY_LEN, GROUP_LEN, REPORT_LEN};
 
-/// What a job is lent and given, as in `perlovasta::sys::job`.
-#[derive(Clone, Copy, Debug)]
-pub struct Input<'a> {
-    /// 0 write, 1 read.
-    pub kind: u8,
-    /// The seven-bit address.
-    pub address: u8,
-    /// How many data bytes.
-    pub n: u8,
-    /// The data of a write.
-    pub data: &'a [u8],
-    /// Pairs of event and argument.
-    pub script: &'a [u8],
-}
-
 /// What `perlovasta::sys::job` gives, by the model.
-pub fn job(input: &Input, destination: &mut [u8], out: &mut [u8], report: &mut [u8]) -> bool {
+#[expect(
+    clippy::too_many_arguments,
+    reason = "they are those of `perlovasta::sys::job`, one for one"
+)]
+pub fn job(
+    kind: u8,
+    address: u8,
+    n: u8,
+    data: &[u8],
+    destination: &mut [u8],
+    out: &mut [u8],
+    script: &[u8],
+    report: &mut [u8],
+) -> bool {
     let Some(report) = report.first_chunk_mut() else {
         return false;
     };
-    *report = match kind(input.kind) {
-        Some(kind) => written(run(input, kind, destination, out)),
+    *report = match kind_of(kind) {
+        Some(kind) => {
+            let job = Job {
+                kind,
+                address,
+                n,
+                data,
+            };
+            written(run_job(&mut enabled(), &job, destination, out, script))
+        }
         // Of another kind: 21, and nothing is done.
         None => [21, 0, 0, 0, 0, 0, 0, 0, 0, 0, 0, 0],
     };
     true
 }
 
-fn kind(number: u8) -> Option<Kind> {
+fn kind_of(number: u8) -> Option<Kind> {
     match number {
         0 => Some(Kind::Write),
         1 => Some(Kind::Read),
         _ => None,
     }
-}
-
-fn run(input: &Input, kind: Kind, destination: &mut [u8], out: &mut [u8]) -> Report {
-    let job = Job {
-        kind,
-        address: input.address,
-        n: input.n,
-        data: input.data,
-    };
-    run_job(&mut enabled(), &job, destination, out, input.script)
 }
 
 /// A fresh controller enabled by 40h, as a job's.

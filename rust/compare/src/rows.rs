@@ -1,62 +1,86 @@
-//! The rows of the benchmark: what is timed on library and model alike.
+//! The rows of the benchmark.
+//!
+//! Library and model are called alike, by [`side`](crate::side). What the library's side of a job
+//! has to do for the call itself is in every row of a job, and alone in the last row, so that it
+//! can be taken off.
 
 use crate::group::{CONTROL, Group, event, write};
 use crate::random::Random;
-use crate::reference::{self, Input};
-use crate::timing::{Times, measure};
+use crate::row::{Call, Expected, Row};
 use crate::trace_case::steered;
-use perlovasta::{ENTRY_LEN, OUT_LEN, PLACES, REPORT_LEN, sys};
-use std::hint::black_box;
 
 /// The groups of a trace that is timed.
 const GROUPS: usize = 8192;
 
-/// A row: what it is, and how long a call takes.
-#[derive(Clone, Debug)]
-pub struct Row {
-    /// What is timed.
-    pub name: &'static str,
-    /// Its pairs or groups.
-    pub pieces: usize,
-    /// The times of one job or trace.
-    pub times: Times,
+/// Another master's START, an address byte that is not the controller's, the master's STOP.
+pub const TRAFFIC: [u8; 6] = [2, 0, 5, 0x20, 3, 0];
+/// A START or STOP at an illegal place, which changes nothing while the bus is free.
+pub const ILLEGAL_EDGE: [u8; 2] = [10, 0];
+
+/// All rows.
+pub fn rows() -> Vec<Row<'static>> {
+    [jobs(), jobs_that_wait(), traces(), vec![bare()]].concat()
 }
 
-/// All rows, each timed in so many runs.
-pub fn rows(runs: usize) -> Vec<Row> {
-    let read_8 = script([7, 0x5C], 8);
-    let read_68 = script([7, 0x5C], 68);
-    let write_68 = script([6, 0], 68);
+fn jobs() -> Vec<Row<'static>> {
+    let write = script([6, 0], 68);
+    // Own STOP, where own START is expected.
+    let unexpected = vec![4, 0];
+    let (done, refused) = (Expected::Answer(0), Expected::Answer(28));
+    vec![
+        Row::new("read of 8", Call::Read(8), read(8), done),
+        Row::new("read of 68", Call::Read(68), read(68), done),
+        Row::new("write of 68", Call::Write(68), write, done),
+        Row::new(
+            "job with first event refused",
+            Call::Read(8),
+            unexpected,
+            refused,
+        ),
+    ]
+}
+
+/// A thousand pairs, as near as whole rounds come, before the job's own START.
+fn jobs_that_wait() -> Vec<Row<'static>> {
+    let after = |name, round: &[u8], times| {
+        let script = [round.repeat(times), read(8)].concat();
+        Row::new(name, Call::Read(8), script, Expected::Answer(0))
+    };
+    vec![
+        after("read of 8 after 999 pairs of another master", &TRAFFIC, 333),
+        after(
+            "read of 8 after 1000 pairs of event 10",
+            &ILLEGAL_EDGE,
+            1000,
+        ),
+    ]
+}
+
+fn traces() -> Vec<Row<'static>> {
+    let trace = |name, groups: Vec<Group>, expected| {
+        Row::new(name, Call::Trace, groups.into_flattened(), expected)
+    };
     let mixed = steered(&mut Random::new(9665), GROUPS, 10);
     vec![
-        job_row("read of 8", runs, &job(1, 8, &read_8), 0),
-        job_row("read of 68", runs, &job(1, 68, &read_68), 0),
-        job_row("write of 68", runs, &job(0, 68, &write_68), 0),
-        // Own STOP, where own START is expected.
-        job_row(
-            "job with first event refused",
-            runs,
-            &job(1, 8, &[4, 0]),
-            28,
-        ),
-        trace_row("refused events, a trace", runs, &refused(), Some(8)),
-        trace_row("mixed trace", runs, &mixed, None),
+        trace("refused events, a trace", refused(), Expected::Refusal(8)),
+        trace("mixed trace", mixed, Expected::Log),
     ]
+}
+
+/// What the call itself takes, with nothing done.
+fn bare() -> Row<'static> {
+    let name = "bare call: a job whose report is too short";
+    Row::new(name, Call::Read(8), vec![4, 0], Expected::Nothing)
+}
+
+/// The script of a read of so many bytes.
+pub fn read(n: usize) -> Vec<u8> {
+    script([7, 0x5C], n)
 }
 
 /// Own START, the address byte, n data bytes by this pair, own STOP.
 fn script(pair: [u8; 2], n: usize) -> Vec<u8> {
     [&[1, 0, 6, 0], pair.repeat(n).as_slice(), &[4, 0]].concat()
-}
-
-fn job(kind: u8, n: u8, script: &[u8]) -> Input<'_> {
-    Input {
-        kind,
-        address: 0x50,
-        n,
-        data: &[0x5C; PLACES],
-        script,
-    }
 }
 
 /// Enabled, then events of which none is expected while the bus is free.
@@ -65,85 +89,4 @@ fn refused() -> Vec<Group> {
     let events = unexpected.into_iter().cycle();
     let enabled = [write(CONTROL, 0x40)];
     enabled.into_iter().chain(events).take(GROUPS).collect()
-}
-
-/// What a job is lent to write to.
-#[derive(Clone, PartialEq)]
-struct Lent {
-    destination: [u8; PLACES],
-    out: [u8; OUT_LEN],
-    report: [u8; REPORT_LEN],
-}
-
-const LENT: Lent = Lent {
-    destination: [0; PLACES],
-    out: [0; OUT_LEN],
-    report: [0; REPORT_LEN],
-};
-
-/// A job, and the number it has to be answered.
-fn job_row(name: &'static str, runs: usize, input: &Input, answer: u8) -> Row {
-    let (mut library, mut model) = (LENT, LENT);
-    let times = measure(
-        runs,
-        || library_job(black_box(input), black_box(&mut library)),
-        || model_job(black_box(input), black_box(&mut model)),
-    );
-    assert!(library == model, "{name}: library and model disagree");
-    assert_eq!(library.report[0], answer, "{name}");
-    Row {
-        name,
-        pieces: input.script.len() / 2,
-        times,
-    }
-}
-
-fn library_job(input: &Input, lent: &mut Lent) {
-    black_box(sys::job(
-        input.kind,
-        input.address,
-        input.n,
-        input.data,
-        &mut lent.destination,
-        &mut lent.out,
-        input.script,
-        &mut lent.report,
-    ));
-}
-
-fn model_job(input: &Input, lent: &mut Lent) {
-    black_box(reference::job(
-        input,
-        &mut lent.destination,
-        &mut lent.out,
-        &mut lent.report,
-    ));
-}
-
-/// A trace, and the number by which all groups but the first have to be refused, if one.
-fn trace_row(name: &'static str, runs: usize, groups: &[Group], refusal: Option<u8>) -> Row {
-    let trace = groups.as_flattened();
-    let mut library = vec![0; ENTRY_LEN * groups.len()];
-    let mut model = library.clone();
-    assert!(sys::trace(trace, &mut library), "{name}: not run");
-    let times = measure(
-        runs,
-        || {
-            black_box(sys::trace(black_box(trace), black_box(&mut library)));
-        },
-        || {
-            black_box(reference::trace(black_box(trace), black_box(&mut model)));
-        },
-    );
-    assert!(library == model, "{name}: library and model disagree");
-    let mut later = library.chunks(ENTRY_LEN).skip(1);
-    assert!(
-        later.all(|entry| refusal.is_none_or(|number| entry[0] == number)),
-        "{name}"
-    );
-    Row {
-        name,
-        pieces: groups.len(),
-        times,
-    }
 }

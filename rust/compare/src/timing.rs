@@ -15,7 +15,8 @@ pub struct Times {
 }
 
 /// Times both in so many runs, one after the other, so that what else the machine does hits both.
-pub fn measure(runs: usize, mut library: impl FnMut(), mut model: impl FnMut()) -> Times {
+/// Each makes as many calls as it is told.
+pub fn measure(runs: usize, mut library: impl FnMut(u32), mut model: impl FnMut(u32)) -> Times {
     let calls = (calls(&mut library), calls(&mut model));
     let mut times = Times {
         library: f64::INFINITY,
@@ -29,7 +30,7 @@ pub fn measure(runs: usize, mut library: impl FnMut(), mut model: impl FnMut()) 
 }
 
 /// How many calls a run takes.
-fn calls(work: &mut impl FnMut()) -> u32 {
+fn calls(work: &mut impl FnMut(u32)) -> u32 {
     let mut calls = 1;
     while run(work, calls) < RUN {
         calls *= 2;
@@ -37,14 +38,12 @@ fn calls(work: &mut impl FnMut()) -> u32 {
     calls
 }
 
-fn one_call(work: &mut impl FnMut(), calls: u32) -> f64 {
+fn one_call(work: &mut impl FnMut(u32), calls: u32) -> f64 {
     run(work, calls).as_secs_f64() * 1e9 / f64::from(calls)
 }
 
-fn run(work: &mut impl FnMut(), calls: u32) -> Duration {
+fn run(work: &mut impl FnMut(u32), calls: u32) -> Duration {
     let start = Instant::now();
-    for _ in 0..calls {
-        work();
-    }
+    work(calls);
     start.elapsed()
 }

@@ -2,13 +2,20 @@
 //!
 //! `speed [--check]`: with `--check` in fewer runs. Speed is measured, never asserted.
 
-use compare::rows::{Row, rows};
+use compare::row::Row;
+use compare::rows::rows;
 use std::env;
 use std::process::ExitCode;
 
 /// Runs of each row; the least time of all is shown.
 const RUNS: usize = 15;
 const RUNS_OF_A_CHECK: usize = 5;
+
+const HEADING: &str = "\
+both are called by pointer with the same slices; a job of the library's then tests data and script
+for overlap and passes 13 arguments to C: the bare call, which returns at once, is what that takes
+                                            ----- library -----   ------ model ------   library
+                                                 call     piece        call     piece   / model";
 
 fn main() -> ExitCode {
     let words: Vec<String> = env::args().skip(1).collect();
@@ -21,24 +28,23 @@ fn main() -> ExitCode {
         }
     };
     println!("least of {runs} runs, in ns; a call is a job or a trace, a piece a pair or a group");
-    println!("                               ---- library ----     ----- model -----   library");
-    println!("                                  call     piece        call     piece   / model");
-    for row in rows(runs) {
-        show(&row);
+    println!("{HEADING}");
+    for row in rows() {
+        show(&row, runs);
     }
     ExitCode::SUCCESS
 }
 
-fn show(row: &Row) {
-    let pieces = row.pieces as f64;
-    let (library, model) = (row.times.library, row.times.model);
+fn show(row: &Row, runs: usize) {
+    let times = row.times(runs, &mut vec![0; row.room()]);
+    let pieces = row.pieces() as f64;
     println!(
-        "{:28}{:10.1}{:10.2}{:12.1}{:10.2}{:10.2}",
+        "{:43}{:10.1}{:10.2}{:12.1}{:10.2}{:10.2}",
         row.name,
-        library,
-        library / pieces,
-        model,
-        model / pieces,
-        library / model
+        times.library,
+        times.library / pieces,
+        times.model,
+        times.model / pieces,
+        times.library / times.model
     );
 }

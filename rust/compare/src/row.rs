@@ -1,0 +1,158 @@
+//! A row of the benchmark: the same call to library and model, and what it has to give.
+
+use crate::side::{LIBRARY, MODEL, Side};
+use crate::timing::{Times, measure};
+use perlovasta::{ENTRY_LEN, GROUP_LEN, OUT_LEN, PLACES, REPORT_LEN};
+use std::borrow::Cow;
+use std::hint::black_box;
+
+/// What is called.
+#[derive(Clone, Copy, Debug)]
+pub enum Call {
+    /// A write of so many bytes.
+    Write(u8),
+    /// A read of so many bytes.
+    Read(u8),
+    /// A trace.
+    Trace,
+}
+
+/// What a call has to give.
+#[derive(Clone, Copy, Debug)]
+pub enum Expected {
+    /// This answer of a job.
+    Answer(u8),
+    /// This refusal of each group of a trace but the first; 0 for accepted.
+    Refusal(u8),
+    /// A log with whatever refusals.
+    Log,
+    /// False and nothing written, for a job whose report is too short.
+    Nothing,
+}
+
+/// A call by name.
+#[derive(Clone, Debug)]
+pub struct Row<'a> {
+    /// What is called, in words.
+    pub name: &'static str,
+    call: Call,
+    /// The script of a job, or the groups of a trace.
+    input: Cow<'a, [u8]>,
+    expected: Expected,
+}
+
+/// No answer and no refusal, so that bytes that were not written are none.
+const UNTOUCHED: u8 = 0xEE;
+
+/// What a call is lent to write to, and what it returned.
+#[derive(Debug, PartialEq)]
+struct Lent<'a> {
+    returned: bool,
+    destination: [u8; PLACES],
+    out: [u8; OUT_LEN],
+    /// The report of a job, or the log of a trace.
+    told: &'a mut [u8],
+}
+
+impl<'a> Row<'a> {
+    /// Calls this with a script or groups.
+    pub fn new(
+        name: &'static str,
+        call: Call,
+        input: impl Into<Cow<'a, [u8]>>,
+        expected: Expected,
+    ) -> Self {
+        Row {
+            name,
+            call,
+            input: input.into(),
+            expected,
+        }
+    }
+
+    /// How many pairs or groups it has.
+    pub fn pieces(&self) -> usize {
+        match self.call {
+            Call::Write(_) | Call::Read(_) => self.input.len() / 2,
+            Call::Trace => self.input.len() / GROUP_LEN,
+        }
+    }
+
+    /// How many bytes the reports or logs of both sides have.
+    pub fn room(&self) -> usize {
+        2 * self.told()
+    }
+
+    fn told(&self) -> usize {
+        match (self.call, self.expected) {
+            (Call::Trace, _) => ENTRY_LEN * self.pieces(),
+            (_, Expected::Nothing) => REPORT_LEN - 1,
+            _ => REPORT_LEN,
+        }
+    }
+
+    /// Times both sides in so many runs; their reports or logs go to `room`.
+    pub fn times(&self, runs: usize, room: &mut [u8]) -> Times {
+        let (library, model) = room[..self.room()].split_at_mut(self.told());
+        let (mut library, mut model) = (lent(library), lent(model));
+        let times = measure(
+            runs,
+            |calls| self.repeat(LIBRARY, calls, &mut library),
+            |calls| self.repeat(MODEL, calls, &mut model),
+        );
+        assert!(library == model, "{}: library and model differ", self.name);
+        self.check(&library);
+        times
+    }
+
+    /// Makes so many calls on one side.
+    pub fn calls(&self, side: Side, calls: u32) {
+        let mut told = vec![0; self.told()];
+        let mut lent = lent(&mut told);
+        self.repeat(side, calls, &mut lent);
+        self.check(&lent);
+    }
+
+    fn repeat(&self, side: Side, calls: u32, lent: &mut Lent) {
+        for _ in 0..calls {
+            let side = black_box(side);
+            match self.call {
+                Call::Write(n) => lent.job(side, 0, n, &self.input),
+                Call::Read(n) => lent.job(side, 1, n, &self.input),
+                Call::Trace => lent.returned = (side.trace)(&self.input, lent.told),
+            }
+        }
+    }
+
+    fn check(&self, lent: &Lent) {
+        let as_expected = match self.expected {
+            Expected::Answer(answer) => lent.returned && lent.told[0] == answer,
+            Expected::Refusal(refusal) => {
+                let mut later = lent.told.chunks(ENTRY_LEN).skip(1);
+                lent.returned && later.all(|entry| entry[0] == refusal)
+            }
+            Expected::Log => lent.returned,
+            Expected::Nothing => !lent.returned && lent.told.iter().all(|&byte| byte == UNTOUCHED),
+        };
+        assert!(as_expected, "{}: not what is expected", self.name);
+    }
+}
+
+fn lent(told: &mut [u8]) -> Lent<'_> {
+    told.fill(UNTOUCHED);
+    Lent {
+        returned: false,
+        destination: [0; PLACES],
+        out: [0; OUT_LEN],
+        told,
+    }
+}
+
+impl Lent<'_> {
+    /// Runs a job with the device at 50h.
+    fn job(&mut self, side: Side, kind: u8, n: u8, script: &[u8]) {
+        let (data, destination) = (&[0x5C; PLACES], &mut self.destination);
+        let out = &mut self.out;
+        self.returned = (side.job)(kind, 0x50, n, data, destination, out, script, self.told);
+    }
+}
