@@ -1,4 +1,3 @@
 -- Laws that the proofs here cite.
 pub mod Lists
-pub mod MidMove
 pub mod Script

@@ -7,15 +7,12 @@ use native.Mathlib.Nat.{le-of-suc-le-suc, not-suc-le-zero}
 use native.Mathlib.Omega.{arith}
 use lib.Dec.{eqb}
 use lib.ListN.{length, drop, getD, length-drop}
-use Rattle.answer.specs.Refusal.{refusalNumber, refusalOf, valueOf}
-use Rattle.answer.specs.declared.Answer.the-variants.{Accepted, Refused as Rejected}
-use Rattle.answer.specs.declared.Answer.{Answer}
+use Rattle.answer.specs.Refusal.{refusalNumber}
 use Rattle.answer.specs.declared.Refusal.the-variants.{OutOfRange, BadArgument, OnTheWire, Locked, Unlisted}
 use Rattle.answer.specs.declared.Refusal.the-variants.{BadCount, BufferEnd, Unexpected, Inaccessible, Unsound}
 use Rattle.answer.specs.declared.Refusal.{Refusal}
 use Rattle.controller.specs.Event.{eventOf}
-use Rattle.controller.specs.Reply.{Outcome, outcomeOf}
-use Rattle.controller.specs.declared.reply.Reply.{Reply}
+use Rattle.controller.specs.Reply.{Outcome}
 use Rattle.notation.proofs.Overlay.{at-start, none}
 use Rattle.driver.proofs.Lists.{drop-one}
 use Rattle.driver.specs.Run.{Run, closes, breaks, sending, taking, run}
@@ -144,36 +141,35 @@ module _ (table : Table) (p : Progress) (script : List ℕ) (i : ℕ) where
   unfolding closes breaks follows
   runs-out h = run-short table p (drop i script) (omega (arith, length-drop i script))
 
-  module _ (h : i + 1 < length script) (r : Reply) (e : outcomeOf r ≡ eventOf (p .controller) (getD script i 0) (getD script (i + 1) 0)) where
-    answered : (a : Answer) → r .answer ≡ a →
-        run table p (drop i script)
-        ≡ pairOf table p (getD script i 0) (drop (i + 2) script) (record { next = r .controller; refused = refusalOf a; value = valueOf a })
-    unfolding outcomeOf
-    answered a q =
+  -- the controller gave this to the pair
+  module _ (h : i + 1 < length script) (o : Outcome) (e : o ≡ eventOf (p .controller) (getD script i 0) (getD script (i + 1) 0)) where
+    pair : run table p (drop i script) ≡ pairOf table p (getD script i 0) (drop (i + 2) script) o
+    pair =
         ap (λ (l : List ℕ). run table p l) (drop-two script i h)
         ∙ run-pair table p (getD script i 0) (getD script (i + 1) 0) (drop (i + 2) script)
-        ∙ ap (λ (o : Outcome). pairOf table p (getD script i 0) (drop (i + 2) script) o)
-        (sym e ∙ ap (λ (x : Answer). record { next = r .controller; refused = refusalOf x; value = valueOf x }) q)
+        ∙ ap (pairOf table p (getD script i 0) (drop (i + 2) script)) (sym e)
 
-    -- the controller refused the event
-    pub refused : (why : Refusal) → r .answer ≡ Rejected why → run table p (drop i script) ≡ closes (follows (ends (Refused why)) p)
-    unfolding closes breaks follows refusalOf
-    refused why q = answered (Rejected why) q ∙ if-false _ _ _ (refusal-not-0 why)
+    -- it refused the event
+    pub refused : (why : Refusal) → o .refused ≡ refusalNumber why → run table p (drop i script) ≡ closes (follows (ends (Refused why)) p)
+    unfolding closes breaks follows
+    refused why r =
+        pair ∙ if-false _ _ _ (ap (λ (n : ℕ). eqb n 0) r ∙ refusal-not-0 why) ∙ ap (breaks p 28) r
 
-    -- it accepted the event, and the driver did its work
-    module _ (value : ℕ) (a : r .answer ≡ Accepted value) (q : Progress) (s : q ≡ serve table (getD script i 0) (taking p (r .controller))) where
+    -- it accepted the event with this value, and the driver did its work
+    module _ (a : o .refused ≡ 0) (value : ℕ) (v : value ≡ o .value) (q : Progress) (s : q ≡ serve table (getD script i 0) (taking p (o .next))) where
       taken : run table p (drop i script) ≡ sending (getD script i 0) value (after table q (drop (i + 2) script))
-      unfolding refusalOf valueOf if_then_else_
       taken =
-          answered (Accepted value) a ∙ ap (λ (t : Progress). sending (getD script i 0) value (after table t (drop (i + 2) script))) (sym s)
+          pair ∙ if-true _ _ _ (ap (λ (n : ℕ). eqb n 0) a)
+          ∙ ap (λ (t : Progress). sending (getD script i 0) (o .value) (after table t (drop (i + 2) script))) (sym s)
+          ∙ ap (λ (n : ℕ). sending (getD script i 0) n (after table q (drop (i + 2) script))) (sym v)
 
       pub over : q .over ≡ true → run table p (drop i script) ≡ sending (getD script i 0) value (closes q)
-      over o = taken ∙ ap (λ (t : Run). sending (getD script i 0) value t) (if-true _ _ _ o)
+      over over-now = taken ∙ ap (λ (t : Run). sending (getD script i 0) value t) (if-true _ _ _ over-now)
 
       -- (the run goes on from t, which is that progress)
       pub on : q .over ≡ false → {t : Progress} → t ≡ q →
           run table p (drop i script) ≡ sending (getD script i 0) value (run table t (drop (i + 2) script))
-      on o {t} e =
+      on lasts {t} is =
           taken
           ∙ ap (λ (r : Run). sending (getD script i 0) value r)
-          (if-false _ _ _ o ∙ ap (λ (u : Progress). run table u (drop (i + 2) script)) (sym e))
+          (if-false _ _ _ lasts ∙ ap (λ (u : Progress). run table u (drop (i + 2) script)) (sym is))

@@ -1,3 +1,2 @@
 -- Document 01, Jobs: the run over a script, and what a job gives.
 pub mod Run
-pub mod FastPath

@@ -8,7 +8,7 @@ use controller::record::Controller;
 use service::checks::is_malformed;
 use service::checks::is_ready;
 use service::job::Job;
-use service::serve::start;
+use service::table::start;
 ghost use mathlib.Core.Path.{_≡_};
 ghost use lib.ListN.{length};
 ghost use Rattle.answer.specs.Ending.{numberOf, besideOf};

@@ -1,5 +1,4 @@
 // The driver: one read or write job against the controller, run over a script of bus events.
-mod fast_path;
 mod hand_up;
 pub mod job;
 mod out_record;

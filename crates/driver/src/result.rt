@@ -4,7 +4,7 @@ use controller::record::Controller;
 use service::progress::Progress;
 ghost use mathlib.Core.Path.{_≡_};
 ghost use Rattle.driver.specs.Run.{endedOf, endedResult, resultOf};
-ghost use Rattle.service.specs.Act.{ends, follows};
+ghost use Rattle.service.specs.Act.{ends, finishes, follows};
 ghost use Rattle.service.specs.Progress.{reaching};
 
 // What a job gives beside the bytes.
@@ -43,6 +43,22 @@ pub(crate) fn end_at(
         controller: c,
         ending,
         count: 0,
+        events,
+        sent,
+        fetched,
+    }
+}
+
+// Own STOP came: the job ends here, as was noted.
+pub(crate) fn end_noted(p: Progress, c: Controller, events: usize, sent: usize) -> Ended
+    ensures { λ r. ⌜ r ≡ endedOf (follows finishes (reaching p c events)) sent ⌝ }
+{
+    let ending = p.ending;
+    let fetched = p.fetched;
+    Ended {
+        controller: c,
+        ending,
+        count: p.count,
         events,
         sent,
         fetched,

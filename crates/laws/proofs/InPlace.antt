@@ -1,8 +1,11 @@
--- Where a loop applies an effect to its own record: the byte that is stored has a place. Assumes nothing.
+-- Where a loop applies an effect to its own record: a byte that is stored has a place, and the record is then the one that the
+-- definitions give. Assumes nothing.
 use mathlib.Core.Bool.{true}
-use mathlib.Core.Path.{_≡_, ap, _∙_}
+use mathlib.Core.Path.{_≡_, refl, sym, ap, _∙_}
 use Prim.Native.Nat.{ℕ, _<_}
 use native.Mathlib.Omega.{arith}
+use Rattle.control.specs.declared.turn.Edge.the-variants.{Stop}
+use Rattle.control.specs.declared.turn.Turn.the-variants.{Host}
 use Rattle.controller.proofs.SoundParts.{parts}
 use Rattle.controller.specs.Access.{writeOf}
 use Rattle.controller.specs.Effect.{afterWrite, afterEvent}
@@ -10,8 +13,10 @@ use Rattle.controller.specs.Event.{eventOf}
 use Rattle.controller.specs.Record.{sound}
 use Rattle.controller.specs.Registers.{wrote}
 use Rattle.controller.specs.Reply.{Outcome, accepts, interruptsAt}
-use Rattle.controller.specs.Transfer.{received}
+use Rattle.controller.specs.Setters.{withPlace, withHand, withTurn}
+use Rattle.controller.specs.Transfer.{cursor, counted, received}
 use Rattle.controller.specs.declared.effect.EventEffect.the-variants as event
+use Rattle.controller.specs.declared.effect.EventEffect.{EventEffect}
 use Rattle.controller.specs.declared.effect.WriteEffect.the-variants as write
 use Rattle.controller.specs.declared.record.Controller.{Controller}
 use Rattle.laws.proofs.Soundness.{write-stays-sound, event-stays-sound}
@@ -34,3 +39,27 @@ module _ (c : Controller) (number argument : ℕ) (s : sound c ≡ true) where
   unfolding afterEvent accepts interruptsAt received
   stored-last-below status byte value e =
       omega (arith, parts _ (ap (λ (o : Outcome). sound (o .next)) e ∙ event-stays-sound c number argument s) .moved)
+
+-- The record that an accepted event leaves, where a loop has made it.
+pub record Applied (c : Controller) (e : EventEffect) (d : Controller) : Type 0 where
+  pub next : d ≡ (afterEvent c e) .next
+  pub accepted : (afterEvent c e) .refused ≡ 0
+
+module _ {c d : Controller} {e : EventEffect} where
+  pub applied : {e′ : EventEffect} → e ≡ e′ → d ≡ (afterEvent c e′) .next → (afterEvent c e′) .refused ≡ 0 → Applied c e d
+  applied q next accepted = record {
+    next = next ∙ sym (ap (λ (x : EventEffect). (afterEvent c x) .next) q);
+    accepted = ap (λ (x : EventEffect). (afterEvent c x) .refused) q ∙ accepted;
+  }
+
+  -- a byte is stored at the cursor
+  module _ {byte at : ℕ} (place : at ≡ cursor c) where
+    pub stored : e ≡ event.Stored byte → d ≡ counted (withPlace c at byte) → Applied c e d
+    unfolding afterEvent accepts received
+    stored q next = applied q (next ∙ ap (λ (i : ℕ). counted (withPlace c i byte)) place) refl
+
+    pub stored-last : {status value : ℕ} → e ≡ event.StoredLast status byte value →
+        d ≡ withHand (withTurn (counted (withPlace c at byte)) (Host status Stop)) 0 → Applied c e d
+    unfolding afterEvent accepts interruptsAt received
+    stored-last {status} q next =
+        applied q (next ∙ ap (λ (i : ℕ). withHand (withTurn (counted (withPlace c i byte)) (Host status Stop)) 0) place) refl

@@ -20,8 +20,8 @@ use Rattle.controller.specs.declared.record.Controller.{Controller}
 use Rattle.notation.proofs.Among.{among-has, within, apart}
 use Rattle.notation.proofs.Cases.{if-false, and-left, and-right}
 use Rattle.notation.specs.Choice.{_and_, among}
-use Rattle.runs.proofs.Accesses.{controlledTo, control-written, pointer-written, count-written}
-use Rattle.runs.proofs.DataMoves.{put-sound}
+use Rattle.service.proofs.AccessesLeave.{controlledTo, control-written, pointer-written, count-written}
+use Rattle.service.proofs.Sound.{put-sound}
 use Rattle.runs.proofs.Invariant.{waitingTurns, Good, good-waiting}
 use Rattle.service.specs.Act.{put, does, doesAll}
 use Rattle.service.specs.JobSteps.{countOf, begins}

@@ -12,12 +12,13 @@ use Rattle.controller.specs.Setters.{withHand}
 use Rattle.controller.specs.Reply.{Outcome, accepts}
 use Rattle.controller.specs.declared.record.Controller.{Controller}
 use Rattle.block.specs.Block.{written}
-use Rattle.laws.proofs.Soundness.{write-stays-sound, read-stays-sound}
+use Rattle.laws.proofs.Soundness.{read-stays-sound}
 use Rattle.notation.specs.Choice.{among}
 use Rattle.service.specs.Act.{put, reads, fetchOne, fetch}
 use Rattle.service.specs.Progress.{withRecord, withFetched}
 use Rattle.service.specs.declared.progress.Progress.{Progress}
-use Rattle.runs.proofs.Accesses.{dataWritten, data-written, data-read}
+use Rattle.service.proofs.Sound.{put-sound}
+use Rattle.service.proofs.AccessesLeave.{dataWritten, data-written, data-read}
 
 pub retake : (l : List ℕ) (m n : ℕ) → m ≡ n → take m l ≡ take n l
 retake l m n e = ap (λ (k : ℕ). take k l) e
@@ -29,10 +30,6 @@ pub record Loaded (xs : List ℕ) (c d : Controller) : Type 0 where
   pub sound : sound d ≡ true
   pub places : length (d .buffer) ≡ 68
   pub bytes : take (c .hand + length xs) (d .buffer) ≡ take (c .hand) (c .buffer) ++ xs
-
-pub put-sound : (c : Controller) (register value : ℕ) → sound c ≡ true → sound (put c register value) ≡ true
-unfolding put
-put-sound c register value s = write-stays-sound c register value s
 
 pub load-all : (xs : List ℕ) (c : Controller) → sound c ≡ true → among (kind (c .turn)) wireTurns ≡ false → c .hand + length xs ≤ 68 →
     length (c .buffer) ≡ 68 → Loaded xs c (written xs c)

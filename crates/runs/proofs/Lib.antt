@@ -1,5 +1,4 @@
 -- Laws of one run of a job, over the definitions.
-pub mod Accesses
 pub mod DataMoves
 pub mod Lines
 pub mod Invariant

@@ -28,8 +28,8 @@ use Rattle.laws.proofs.Addresses.{direction-back}
 use Rattle.notation.proofs.Among.{within, apart}
 use Rattle.notation.proofs.Cases.{split}
 use Rattle.notation.specs.Choice.{if_then_else_, among}
-use Rattle.runs.proofs.Accesses.{pointer-written, count-read}
-use Rattle.runs.proofs.DataMoves.{put-sound}
+use Rattle.service.proofs.AccessesLeave.{pointer-written, count-read}
+use Rattle.service.proofs.Sound.{put-sound}
 use Rattle.runs.proofs.Invariant.{In, earlyTurns, write-no-read, count-below, limit, limit-low, below-count, Whole, Good, Stepped, going, good-sending}
 use Rattle.runs.proofs.Lines.{Line, dataWork, receiveWork, nackedWork, sentWork, dataNackedWork}
 use Rattle.runs.proofs.Lines.{loads, receives, counts-and-stops, pointsBack, finds-and-stops}

@@ -26,8 +26,9 @@ use Rattle.controller.specs.declared.record.Registers.{Registers}
 use Rattle.notation.proofs.Among.{among-has}
 use Rattle.notation.proofs.Cases.{and-no-right, or-false}
 use Rattle.notation.specs.Choice.{if_then_else_, _and_, _or_, among}
-use Rattle.runs.proofs.Accesses.{control-written}
-use Rattle.runs.proofs.DataMoves.{load-all, put-sound, retake}
+use Rattle.service.proofs.AccessesLeave.{control-written}
+use Rattle.runs.proofs.DataMoves.{load-all, retake}
+use Rattle.service.proofs.Sound.{put-sound}
 use Rattle.runs.proofs.Invariant.{limit, limit-low, count-below, Whole, Good, good-sending, good-receiving, good-stopping}
 use Rattle.runs.proofs.Lines.{stopped}
 use Rattle.service.proofs.Formed.{Formed}

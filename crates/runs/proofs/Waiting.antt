@@ -26,8 +26,8 @@ use Rattle.driver.specs.Run.{taking}
 use Rattle.notation.proofs.Among.{among-has, within, apart}
 use Rattle.notation.proofs.Cases.{and-left, and-right, split}
 use Rattle.notation.specs.Choice.{if_then_else_, _and_, among}
-use Rattle.runs.proofs.Accesses.{controlledTo, control-written, dataWritten, data-written}
-use Rattle.runs.proofs.DataMoves.{put-sound}
+use Rattle.service.proofs.AccessesLeave.{controlledTo, control-written, dataWritten, data-written}
+use Rattle.service.proofs.Sound.{put-sound}
 use Rattle.runs.proofs.Ends.{at-fault}
 use Rattle.runs.proofs.Invariant.{In, waitingTurns, earlyTurns, Good, Stepped, going, good-waiting, good-addressing}
 use Rattle.runs.proofs.Lines.{Line, addressWork, faultWork, addresses}

@@ -1,12 +1,13 @@
--- What the run over pairs needs of a service, whatever its table: its work takes no pair, and where there is none it leaves all as it
--- is. Assumes nothing.
+-- What the run over pairs needs of a service, whatever its table: its work takes no pair, and when there is which. Assumes nothing.
 use mathlib.Core.Bool.{Bool, true, false}
 use mathlib.Core.List.{List, [], _∷_}
-use mathlib.Core.Path.{_≡_, refl, _∙_}
+use mathlib.Core.Path.{_≡_, refl, ap, _∙_}
 use Prim.Native.Nat.{ℕ, zero, suc, _+_}
-use borrow.Author.Tests.{not-false}
 use lib.Dec.{eqb}
-use Rattle.notation.proofs.Cases.{if-true, if-false, or-left-off, or-right-off}
+use Rattle.answer.specs.declared.ending.Ending.the-variants.{Reset}
+use Rattle.control.specs.Turn.{statusOf}
+use Rattle.controller.specs.Record.{sound}
+use Rattle.notation.proofs.Cases.{if-true, if-false}
 use Rattle.notation.specs.Choice.{if_then_else_}
 use Rattle.service.specs.Act.{
   Act,
@@ -29,8 +30,9 @@ use Rattle.service.specs.Act.{
   follows,
   performs,
 }
-use Rattle.service.specs.Serve.{Table, serve, hasWork}
+use Rattle.service.specs.Serve.{Table, serve}
 use Rattle.service.specs.declared.progress.Progress.{Progress}
+use Rattle.service.proofs.AccessesLeave.{status-read}
 
 -- no act takes a pair: the number of them stays
 fetch-events : (more i : ℕ) (p : Progress) → (fetch more i p) .events ≡ p .events
@@ -69,11 +71,27 @@ serve-events table event p =
     let w = table (reads (p .controller) 0) (p .count) in
     either _ _ _ _ refl (either _ _ _ _ refl (either _ _ _ _ refl (follows-events (w .after) _ ∙ all-events (w .acts) p)))
 
--- where the driver has no work it leaves all as it is
-pub no-work-stays : (table : Table) (event : ℕ) (p : Progress) → hasWork event (p .controller) ≡ false → serve table event p ≡ p
-unfolding serve hasWork
-no-work-stays table event p h =
-    let later = or-right-off (eqb event 14) _ h in
-    if-false _ _ _ (or-left-off (eqb event 14) _ h)
-    ∙ if-false _ _ _ (or-left-off (eqb event 4) _ later)
-    ∙ if-true _ _ _ (not-false _ (or-right-off (eqb event 4) _ later))
+-- Of a sound record: event 14 and own STOP end the job, at F8h the driver waits, and at any other status it goes by the table.
+module _ (table : Table) (event : ℕ) (p : Progress) where
+  pub resets : event ≡ 14 → serve table event p ≡ follows (ends Reset) p
+  unfolding serve if_then_else_
+  resets e = rw e
+
+  pub stops : event ≡ 4 → serve table event p ≡ follows finishes p
+  unfolding serve if_then_else_
+  stops e = rw e
+
+  module _ (not-reset : eqb event 14 ≡ false) (not-stop : eqb event 4 ≡ false) (s : sound (p .controller) ≡ true) where
+    by-status : serve table event p ≡
+        (if eqb (statusOf (p .controller .turn)) 0xF8 then p else performs (table (statusOf (p .controller .turn)) (p .count)) p)
+    unfolding serve
+    by-status =
+        if-false _ _ _ not-reset ∙ if-false _ _ _ not-stop
+        ∙ ap (λ (status : ℕ). if eqb status 0xF8 then p else performs (table status (p .count)) p) (status-read (p .controller) s)
+
+    pub waits : eqb (statusOf (p .controller .turn)) 0xF8 ≡ true → serve table event p ≡ p
+    waits e = by-status ∙ if-true _ _ _ e
+
+    pub works : eqb (statusOf (p .controller .turn)) 0xF8 ≡ false →
+        serve table event p ≡ performs (table (statusOf (p .controller .turn)) (p .count)) p
+    works e = by-status ∙ if-false _ _ _ e

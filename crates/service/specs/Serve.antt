@@ -1,11 +1,10 @@
 -- Document 01, Jobs: the service of a job by any table of work.
-use mathlib.Core.Bool.{Bool, not}
 use mathlib.Core.List.{List}
 use Prim.Native.Nat.{ℕ}
 use lib.Dec.{eqb}
 use Rattle.answer.specs.declared.ending.Ending.the-variants.{Reset}
 use Rattle.controller.specs.declared.record.Controller.{Controller}
-use Rattle.notation.specs.Choice.{if_then_else_, _or_}
+use Rattle.notation.specs.Choice.{if_then_else_}
 use Rattle.service.specs.Act.{Act, ends, finishes, Work, reads, doesAll, follows, performs}
 use Rattle.service.specs.Progress.{starting}
 use Rattle.service.specs.declared.progress.Progress.{Progress}
@@ -25,7 +24,3 @@ serve table event p =
     else if eqb event 4 then follows finishes p
     else if eqb (reads (p .controller) 0) 0xF8 then p
     else performs (table (reads (p .controller) 0) (p .count)) p
-
--- there is such work; where there is none the driver waits at F8h, and `serve` leaves all as it is
-unfoldable pub hasWork : ℕ → Controller → Bool
-hasWork event c = eqb event 14 or eqb event 4 or not (eqb (reads c 0) 0xF8)

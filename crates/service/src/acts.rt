@@ -1,12 +1,15 @@
 // Acts of a driver, and what follows on them: it goes on, waits for own STOP, or is over.
-use crate::accesses::put;
+use crate::accesses::put_control;
+use crate::accesses::put_pointer;
 use crate::progress::Progress;
 use answer::ending::Ending;
 use block::read_block;
 use controller::record::Controller;
+ghost use mathlib.Core.Bool.{true};
 ghost use mathlib.Core.List.{[]};
 ghost use mathlib.Core.Path.{_≡_};
-ghost use Rattle.service.specs.Act.{counts, readsAll, readsCount, ends, finishes, does, doesAll, follows, performs, readTimes};
+ghost use Rattle.controller.specs.Record.{sound};
+ghost use Rattle.service.specs.Act.{counts, readsAll, readsCount, ends, does, doesAll, follows, performs, readTimes};
 ghost use Rattle.service.specs.JobSteps.{findsMoved, stopAfter};
 ghost use Rattle.service.specs.Progress.{withRecord};
 
@@ -42,12 +45,13 @@ impl Progress {
 
     // 30h: the moved count is noted; the pointer went to 07h for it, and goes back to 00h.
     pub(crate) fn find_moved(self) -> Progress
+        requires { ⌜ sound (self .controller) ≡ true ⌝ }
         ensures { λ r. ⌜ r ≡ doesAll findsMoved self ⌝ }
     {
         let c = self.controller;
-        let p = self.with_record(put(c, 0, 0x07)).count_read();
+        let p = self.with_record(put_pointer(c, 0x07)).count_read();
         let d = p.controller;
-        p.with_record(put(d, 0, 0x00))
+        p.with_record(put_pointer(d, 0x00))
     }
 
     // I2CDAT is read as often as the count noted says, and at most 68 times.
@@ -65,10 +69,11 @@ impl Progress {
 
     // The driver asks for a STOP, which will give this answer.
     pub(crate) fn stop(self, ending: Ending) -> Progress
+        requires { ⌜ sound (self .controller) ≡ true ⌝ }
         ensures { λ r. ⌜ r ≡ performs (stopAfter [] ending) self ⌝ }
     {
         let c = self.controller;
-        let controller = put(c, 3, 0x50);
+        let controller = put_control(c, 0x50);
         let fetched = self.fetched;
         Progress {
             controller,
@@ -94,14 +99,6 @@ impl Progress {
             events: self.events,
             fetched,
         }
-    }
-
-    // Own STOP came.
-    pub(crate) fn finish(mut self) -> Progress
-        ensures { λ r. ⌜ r ≡ follows finishes self ⌝ }
-    {
-        self.over = true;
-        self
     }
 }
 

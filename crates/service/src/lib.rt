@@ -4,5 +4,4 @@ mod acts;
 pub mod checks;
 pub mod job;
 pub mod progress;
-pub mod serve;
-mod table;
+pub mod table;

@@ -5,16 +5,19 @@ use Prim.Native.Nat.{ℕ}
 use borrow.Author.Needs.{needs}
 use lib.ListN.{length}
 use denote.Ref.{now}
+use Rattle.controller.specs.Record.{sound}
 use Rattle.controller.specs.declared.record.Controller.{Controller}
 use Rattle.driver.specs.Run.{Run, Report, Result, resultOf, endedResult, run, handsUp, reports, declines, jobOf}
 use Rattle.driver.specs.declared.result.JobResult.{JobResult}
-use Rattle.notation.proofs.Cases.{if-true, if-false}
+use Rattle.notation.proofs.Cases.{if-true, if-false, and-left}
 use Rattle.notation.specs.Overlay.{laid}
 use Rattle.service.proofs.Formed.{formed}
+use Rattle.service.proofs.Sound.{acts-sound}
 use Rattle.service.specs.Act.{does, doesAll}
 use Rattle.service.specs.JobSteps.{begins}
 use Rattle.service.specs.JobTable.{jobTable}
 use Rattle.service.specs.Progress.{starting}
+use Rattle.service.specs.Request.{ready}
 use Rattle.service.specs.Serve.{starts}
 use Rattle.service.specs.declared.progress.Progress.{Progress}
 use Rattle.driver.proofs.job.run_job.Statement.{statement}
@@ -41,11 +44,19 @@ returns c =
     declined (c .decline .result) _ (s .c) 21 (now (s .destination)) (now (s .out))
     (if-true _ _ _ (sym (c .before .before .is-malformed .ensures) ∙ c .before .if1 .taken)) (c .decline .ensures)
 
+start-requires : tie.Need-start-requires
+start-requires c κs = sym (c .before .is-ready .ensures) ∙ c .if2 .taken
+
 run-pairs-requires : tie.Need-run-pairs-requires
-unfolding starts doesAll does starting
+unfolding starts doesAll does starting ready
 run-pairs-requires c κs =
     let begun = c .before .start .ensures in
-    (ap (λ (p : Progress). p .events) begun, ap (λ (p : Progress). p .over) begun)
+    let able = sym (c .before .before .before .is-ready .ensures) ∙ c .before .before .if2 .taken in
+    let args = c .before .before .before .before .before .before .before .before .before .before .args in (
+      ap (λ (p : Progress). p .events) begun,
+      ap (λ (p : Progress). p .over) begun,
+      ap (λ (p : Progress). sound (p .controller)) begun ∙ acts-sound (begins (args .job)) (starting (args .c)) (and-left _ _ able),
+    )
 
 hand-up-requires : tie.Need-hand-up-requires
 hand-up-requires c κs =
@@ -104,7 +115,7 @@ run-job-spec =
     (λ c κs. search needs)
     returns
     (λ c κs. search needs)
-    (λ c κs. search needs)
+    start-requires
     run-pairs-requires
     hand-up-requires
     (λ c κs. search needs)

@@ -1,23 +1,24 @@
 -- `work_at` does the work of its table: the arm of one number computes, and what the other arms know settles the tests of the table.
 use mathlib.Core.List.{List, [], _∷_}
 use mathlib.Core.Logic.{inl, inr}
-use mathlib.Core.Path.{_≡_, sym, ap, _∙_}
+use mathlib.Core.Path.{_≡_, sym, ap, subst, _∙_}
 use Prim.Native.Nat.{ℕ}
 use borrow.Author.Needs.{needs}
 use borrow.Author.Tests.{ne-eqb}
 use lib.ListN.{take}
-use denote.Ref.{now}
-use types.Run.{OneOf}
 use Rattle.answer.specs.declared.ending.Ending.the-variants.{AddressNacked, Fault}
 use Rattle.control.specs.Turn.{faults}
 use Rattle.notation.proofs.Among.{none-of}
 use Rattle.notation.proofs.Cases.{cases}
 use Rattle.notation.specs.Choice.{if_then_else_, among}
-use Rattle.service.specs.Act.{Work, writes, counts, does, doesAll, follows, performs}
+use Rattle.service.proofs.Blocks.{load-block}
+use Rattle.service.proofs.Sound.{Holds, does-sound, acts-sound}
+use Rattle.service.specs.Act.{Work, writes, readsAll, counts, does, doesAll, follows, performs}
 use Rattle.service.specs.JobSteps.{goOnAfter, stopAfter, endAfter}
 use Rattle.service.specs.JobTable.{jobTable}
 use Rattle.service.specs.declared.job.Job.{Job}
-use Rattle.service.proofs.Blocks.{load-block}
+use denote.Ref.{now}
+use types.Run.{OneOf}
 use Rattle.service.proofs.table.work_at.Statement.{statement}
 use Rattle.service.proofs.table.work_at.Tie as tie
 
@@ -34,6 +35,33 @@ fault job payload status count (inl e) = rw e
 fault job payload status count (inr (inl e)) = rw e
 fault job payload status count (inr (inr e)) = rw e
 
+send-address-requires : tie.Need-send-address-requires
+send-address-requires c κs = c .before .before .before .pre
+
+send-data-requires : tie.Need-send-data-requires
+send-data-requires c κs = c .before .before .before .pre
+
+put-control-requires : tie.Need-put-control-requires
+put-control-requires c κs = c .before .before .before .pre
+
+stop-requires : tie.Need-stop-requires
+stop-requires c κs = subst Holds (sym (c .note-count .ensures)) (does-sound _ _ (c .before .before .before .before .pre))
+
+stop-requires-2 : tie.Need-stop-requires-2
+stop-requires-2 c κs = subst Holds (sym (c .note-count2 .ensures)) (does-sound _ _ (c .before .before .before .before .pre))
+
+find-moved-requires : tie.Need-find-moved-requires
+find-moved-requires c κs = c .before .before .before .pre
+
+stop-requires-3 : tie.Need-stop-requires-3
+stop-requires-3 c κs = subst Holds (sym (c .find-moved .ensures)) (acts-sound _ _ (c .before .before .before .before .pre))
+
+stop-requires-4 : tie.Need-stop-requires-4
+stop-requires-4 c κs = subst Holds (sym (c .read-all .ensures ∙ ap (does readsAll) (c .before .note-count3 .ensures))) (does-sound readsAll _ (does-sound _ _ (c .before .before .before .before .before .pre)))
+
+put-control-requires-2 : tie.Need-put-control-requires-2
+put-control-requires-2 c κs = c .before .before .before .pre
+
 returns : tie.Need-returns
 unfolding jobTable among if_then_else_ performs doesAll does follows
 returns c = rw (c .with-record .ensures, c .before .send-address .ensures, c .before .before .match .keys1)
@@ -47,7 +75,7 @@ returns-2 c =
 
 returns-3 : tie.Need-returns-3
 unfolding jobTable among if_then_else_ performs doesAll does follows
-returns-3 c = rw (c .with-record3 .ensures, c .before .put .ensures, c .before .before .match .keys3)
+returns-3 c = rw (c .with-record3 .ensures, c .before .put-control .ensures, c .before .before .match .keys3)
 
 returns-4 : tie.Need-returns-4
 unfolding performs doesAll does follows
@@ -73,7 +101,7 @@ returns-7 c = rw (c .stop4 .ensures, c .before .read-all .ensures, c .before .be
 returns-8 : tie.Need-returns-8
 unfolding jobTable among if_then_else_ performs doesAll does follows
 returns-8 c =
-    rw (c .end .ensures, c .before .with-record4 .ensures, c .before .before .put2 .ensures, c .before .before .before .match .keys8)
+    rw (c .end .ensures, c .before .with-record4 .ensures, c .before .before .put-control2 .ensures, c .before .before .before .match .keys8)
 
 returns-9 : tie.Need-returns-9
 unfolding performs doesAll
@@ -108,22 +136,22 @@ pub work-at-spec : {M : Type 1} → statement M
 work-at-spec =
     tie.close
     (tie.spec
+    send-address-requires
+    (λ c κs. search needs)
+    send-data-requires
+    (λ c κs. search needs)
+    put-control-requires
     (λ c κs. search needs)
     (λ c κs. search needs)
+    stop-requires
+    (λ c κs. search needs)
+    stop-requires-2
+    find-moved-requires
+    stop-requires-3
     (λ c κs. search needs)
     (λ c κs. search needs)
-    (λ c κs. search needs)
-    (λ c κs. search needs)
-    (λ c κs. search needs)
-    (λ c κs. search needs)
-    (λ c κs. search needs)
-    (λ c κs. search needs)
-    (λ c κs. search needs)
-    (λ c κs. search needs)
-    (λ c κs. search needs)
-    (λ c κs. search needs)
-    (λ c κs. search needs)
-    (λ c κs. search needs)
+    stop-requires-4
+    put-control-requires-2
     (λ c κs. search needs)
     (λ c κs. search needs)
     (λ c κs. search needs)
