@@ -3,3 +3,4 @@ pub mod Places
 pub mod Numbers
 pub mod LogGroups
 pub mod Few
+pub mod Ways

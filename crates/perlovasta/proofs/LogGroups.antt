@@ -1,21 +1,18 @@
 -- One group of a trace, or the lack of one: what it makes of the definitions. Assumes nothing.
 use mathlib.Core.Bool.{Bool, true, false}
 use mathlib.Core.List.{List, [], _∷_, _++_}
-use mathlib.Core.Path.{_≡_, refl, sym, ap, subst, _∙_}
+use mathlib.Core.Path.{_≡_, refl, ap, _∙_}
 use Prim.Native.Nat.{ℕ, _+_, _-_, _*_, _/_, _<_, _≤_}
 use native.Mathlib.Nat.{le-of-suc-le-suc, not-suc-le-zero}
 use native.Mathlib.Omega.{arith}
 use borrow.Author.Tests.{lt-ltb, le-ltb, ltb-true, ltb-false}
 use lib.Dec.{ltb}
 use lib.ListN.{length, drop, getD, length-drop, drop-of-length-le}
-use Rattle.answer.specs.Refusal.{refusalOf}
 use Rattle.controller.specs.Record.{sound}
-use Rattle.controller.specs.Reply.{Outcome, outcomeOf}
+use Rattle.controller.specs.Reply.{Outcome}
 use Rattle.controller.specs.declared.record.Controller.{Controller}
-use Rattle.controller.specs.declared.reply.Reply.{Reply}
 use Rattle.driver.proofs.Script.{drop-two}
 use Rattle.driver.proofs.Lists.{drop-one}
-use Rattle.laws.proofs.Refusals.{Stays, read-stays, write-stays, event-stays}
 use Rattle.laws.proofs.Soundness.{read-stays-sound, write-stays-sound, event-stays-sound}
 use Rattle.notation.proofs.Cases.{split}
 use Rattle.notation.specs.Choice.{_or_}
@@ -37,12 +34,7 @@ short c (x ∷ []) h = refl
 short c (x ∷ y ∷ []) h = refl
 short c (x ∷ y ∷ z ∷ xs) h = absurd (not-suc-le-zero (le-of-suc-le-suc (le-of-suc-le-suc (le-of-suc-le-suc h))))
 
--- a refused group leaves the record, and any leaves a sound one sound
-stays-group : (c : Controller) (kind place value : ℕ) → Stays c (groupOf c kind place value)
-unfolding groupOf
-stays-group c kind place value =
-    split (Stays c) _ _ _ (λ _. read-stays c place) (λ _. split (Stays c) _ _ _ (λ _. write-stays c place value) (λ _. event-stays c place value))
-
+-- a group leaves a sound record sound
 pub sound-group : (c : Controller) (kind place value : ℕ) → sound c ≡ true → sound ((groupOf c kind place value) .next) ≡ true
 unfolding groupOf
 sound-group c kind place value s =
@@ -51,11 +43,6 @@ sound-group c kind place value s =
   where
     P : Outcome → Type 0
     P o = sound (o .next) ≡ true
-
-pub refused-group : (c : Controller) (kind place value : ℕ) (r : Reply) → outcomeOf r ≡ groupOf c kind place value →
-    (refusalOf (r .answer) ≡ 0 → ⊥) → r .controller ≡ c
-unfolding outcomeOf
-refused-group c kind place value r e f = (subst (Stays c) (sym e) (stays-group c kind place value)) .record-kept f
 
 -- a group has eight bytes of the log
 pub entry-eight : (o : Outcome) → length (entryOf o) ≡ 8

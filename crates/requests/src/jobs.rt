@@ -1,18 +1,41 @@
 // A job given in numbers, and the controller that it runs on.
 use address::number::Address;
 use address::number::Direction;
+use control::flags::Control;
+use control::turn::Turn;
 use controller::record::Controller;
+use controller::record::Registers;
 use service::job::Job;
 ghost use mathlib.Core.Path.{_≡_};
 ghost use Rattle.requests.specs.Jobs.{freshEnabled, directionFor, jobFor};
 
-// A fresh controller, enabled by 40h.
+// A fresh controller, enabled by 40h: nothing is worked out where the program runs.
 pub fn fresh_enabled() -> Controller
     ensures { λ r. ⌜ r ≡ freshEnabled ⌝ }
 {
-    let c = Controller::fresh();
-    let reply = c.write(3, 0x40);
-    reply.controller
+    Controller {
+        buffer: [0; 68],
+        hand: 0,
+        moved: 0,
+        pointer: 0,
+        armed: false,
+        registers: Registers {
+            count: 0x01,
+            own: 0xE0,
+            low: 0x9D,
+            high: 0x86,
+            timeout: 0xFF,
+            speed: 0x00,
+        },
+        control: Control {
+            aa: false,
+            ensio: true,
+            sta: false,
+            sto: false,
+            mode: false,
+        },
+        turn: Turn::Free,
+    }
 }
 
 // Kind 0 is a write.

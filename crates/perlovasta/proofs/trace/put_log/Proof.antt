@@ -1,30 +1,29 @@
 -- `put_log` lays the log: that of the groups that are left, laid from the place reached, always gives that of all.
 use mathlib.Core.Bool.{true}
 use mathlib.Core.List.{List}
-use mathlib.Core.Logic.{⊎-elim}
 use mathlib.Core.Path.{_≡_, refl, sym, ap, _∙_}
 use Prim.Native.Nat.{ℕ, _+_, _-_, _*_, _/_, _<_, _≤_}
 use native.Mathlib.Omega.{arith}
 use borrow.Author.Needs.{needs}
-use lib.ListN.{length, drop}
+use lib.ListN.{length, drop, getD}
 use denote.Ref.{now}
+use Rattle.controller.proofs.SoundParts.{parts, cursor-below}
+use Rattle.controller.specs.Effect.{afterRead, afterWrite, afterEvent}
 use Rattle.controller.specs.Record.{sound}
-use Rattle.controller.specs.Reply.{Outcome, outcomeOf}
-use Rattle.controller.specs.declared.record.Controller.{Controller}
+use Rattle.controller.specs.Registers.{wrote}
+use Rattle.controller.specs.Reply.{Outcome, refuses, accepts, waitsFor, interruptsAt}
+use Rattle.controller.specs.Transfer.{received}
+use Rattle.laws.proofs.InPlace.{loaded-below, stored-below, stored-last-below}
 use Rattle.notation.proofs.Overlay.{at-start, none}
 use Rattle.notation.specs.Overlay.{laid, laidAt}
+use Rattle.requests.specs.Groups.{groupOf}
 use Rattle.perlovasta.specs.Log.{leaves, entryOf}
 use Rattle.perlovasta.specs.Trace.{logOf}
-use Rattle.perlovasta.proofs.LogGroups.{entry-eight, refused-group, sound-group, log-none, log-group}
+use Rattle.perlovasta.proofs.LogGroups.{entry-eight, sound-group, log-none, log-group}
 use Rattle.perlovasta.proofs.Places.{after-eight}
+use Rattle.perlovasta.proofs.Ways.{_or-else_, was-read, was-written, was-event, read-kept}
 use Rattle.perlovasta.proofs.trace.put_log.Statement.{statement}
 use Rattle.perlovasta.proofs.trace.put_log.Tie as tie
-use Rattle.perlovasta.proofs.trace.put_log.Reads as reads
-use Rattle.perlovasta.proofs.trace.put_log.Lts as lts
-use Rattle.answer.proofs.Answer.refused.Reads as refused-reads
-use Rattle.requests.proofs.groups.access.Reads as access-reads
-use Rattle.perlovasta.proofs.log.log_entry.Reads as log-entry-reads
-use Rattle.perlovasta.proofs.memory.put_eight.Reads as put-eight-reads
 
 abbrev Inv-loop : tie.InvT-loop
 Inv-loop trace log₀ c₀ i₀ at₀ log c i at =
@@ -37,78 +36,102 @@ abbrev μ-loop : tie.MeasureT-loop
 loop-holds : tie.Need-loop-holds Inv-loop μ-loop
 loop-holds c = (search needs, omega (arith, c .before .before .pre .0), refl, c .before .before .pre .1, at-start _ _)
 
--- where the two ways meet
+-- a byte that is stored has its place: the hand place, or the cursor
+element-write-c : tie.Need-element-write-c Inv-loop μ-loop
+element-write-c c =
+    let e = c .before .before .before .before in
+    let l = e .before .before .before .before .before .before .loop in
+    loaded-below (l .c) _ _ (l .inv .3) _ (rw (c .before .effect2 .given .1) at (e .write-effect .ensures))
+
+element-write-c-2 : tie.Need-element-write-c-2 Inv-loop μ-loop
+element-write-c-2 c =
+    let e = c .before .before .before .before .before in
+    let l = e .before .before .before .before .before .before .loop in
+    let below = stored-below (l .c) _ _ (l .inv .3) _ (rw (c .before .before .effect8 .given .1) at (e .event-effect .ensures)) in
+    rw (c .cursor .ensures) (cursor-below (l .c) below)
+
+element-write-c-3 : tie.Need-element-write-c-3 Inv-loop μ-loop
+element-write-c-3 c =
+    let e = c .before .before .before .before .before in
+    let l = e .before .before .before .before .before .before .loop in
+    let below = stored-last-below (l .c) _ _ (l .inv .3) _ _ _ (rw (c .before .before .effect9 .given .1) at (e .event-effect .ensures)) in
+    rw (c .cursor2 .ensures) (cursor-below (l .c) below)
+
+-- where the arms meet
 abbrev Met : Type 0
-Met =
-    lts.Joined1 (
-      access-reads.Asked,
-      access-reads.Learnt,
-      refused-reads.Asked,
-      refused-reads.Learnt,
-      log-entry-reads.Asked,
-      log-entry-reads.Learnt,
-      put-eight-reads.Asked,
-      put-eight-reads.Learnt,
-    )
-    reads.Pre reads.Post Inv-loop μ-loop
+Met = tie.At-match-came Inv-loop μ-loop
 
--- the record there is the one after the group
-joined : (c : Met) → c .if1 .c ≡ c .before .before .access .result .controller
+-- there the answer and the record are what the group gives. A way has in this order: the arm of the kind, the calls for the effect and for its
+-- answer, the arm of the effect and which it was, the calls that change the record; last the record and the answer that it leaves.
+joined : (c : Met) →
+    let l = c .before .before .before .before .before .loop in
+    let trace = now (c .before .before .before .before .before .before .before .before .args .trace) in
+    leaves (c .match .answer) (c .match .c) ≡ groupOf (l .c) (getD trace (l .i) 0) (getD trace (l .i + 1) 0) (getD trace (l .i + 2) 0)
+unfolding afterRead afterWrite afterEvent refuses accepts wrote waitsFor interruptsAt received
 joined c =
-    let l = c .before .before .before .before .before .before .before .loop in
-    let access = c .before .before .access in
-    ⊎-elim
-    (λ w. w .2)
-    (λ w. w .1 ∙ sym (refused-group (l .c) _ _ _ (access .result) (access .ensures) (λ h. w .0 .left (c .before .refused .ensures ∙ h))))
-    (c .if1 .came)
+    let d = c .before .before .before .before .before .loop .c in
+    ((λ w. was-read d _ _ _ (w .0 .keys1) (w .1 .ensures) (w .2 .ensures) (w .6) (w .4 .given .1) (w .5))
+    or-else (λ w. was-read d _ _ _ {e = w .1 .result} (w .0 .keys1) (w .1 .ensures) (w .2 .ensures) (w .5) refl
+    (w .4 ∙ read-kept d (w .1 .result) (w .3 .keys2)))
+    or-else (λ w. was-written d _ _ _ (w .0 .keys2) (w .1 .ensures) (w .2 .ensures) (w .6) (w .4 .given .1) (w .5))
+    or-else (λ w. was-written d _ _ _ (w .0 .keys2) (w .1 .ensures) (w .2 .ensures) (w .8) (w .4 .given .1) (w .7 ∙ w .6 .ensures))
+    or-else (λ w. was-written d _ _ _ (w .0 .keys2) (w .1 .ensures) (w .2 .ensures) (w .8) (w .4 .given .1) (w .7 ∙ w .6 .ensures))
+    or-else (λ w. was-written d _ _ _ (w .0 .keys2) (w .1 .ensures) (w .2 .ensures) (w .8) (w .4 .given .1) (w .7 ∙ w .6 .ensures))
+    or-else (λ w. was-written d _ _ _ (w .0 .keys2) (w .1 .ensures) (w .2 .ensures) (w .7) (w .4 .given .1) (w .6))
+    or-else (λ w. was-written d _ _ _ (w .0 .keys2) (w .1 .ensures) (w .2 .ensures) (w .8) (w .4 .given .1) (w .7 ∙ w .6 .ensures))
+    or-else (λ w. was-written d _ _ _ (w .0 .keys2) (w .1 .ensures) (w .2 .ensures) (w .7) (w .4 .given .1) (w .6 ∙ w .5 .ensures))
+    or-else (λ w. was-event d _ _ _ (w .0 .rest) (w .1 .ensures) (w .2 .ensures) (w .6) (w .4 .given .1) (w .5))
+    or-else (λ w. was-event d _ _ _ (w .0 .rest) (w .1 .ensures) (w .2 .ensures) (w .6) (w .4 .given .1) (w .5))
+    or-else (λ w. was-event d _ _ _ (w .0 .rest) (w .1 .ensures) (w .2 .ensures) (w .7) (w .4 .given .1) (w .6 ∙ w .5 .ensures))
+    or-else (λ w. was-event d _ _ _ (w .0 .rest) (w .1 .ensures) (w .2 .ensures) (w .7) (w .4 .given .1) (w .6 ∙ w .5 .ensures))
+    or-else (λ w. was-event d _ _ _ (w .0 .rest) (w .1 .ensures) (w .2 .ensures) (w .7) (w .4 .given .1) (w .6 ∙ w .5 .ensures))
+    or-else (λ w. was-event d _ _ _ (w .0 .rest) (w .1 .ensures) (w .2 .ensures) (w .7) (w .4 .given .1) (w .6 ∙ w .5 .ensures))
+    or-else (λ w. was-event d _ _ _ (w .0 .rest) (w .1 .ensures) (w .2 .ensures) (w .8) (w .4 .given .1) (w .7 ∙ w .6 .ensures))
+    or-else (λ w. was-event d _ _ _ (w .0 .rest) (w .1 .ensures) (w .2 .ensures) (w .6) (w .4 .given .1) (w .5))
+    or-else (λ w. was-event d _ _ _ (w .0 .rest) (w .1 .ensures) (w .2 .ensures) (w .8) (w .4 .given .1) (w .7 ∙ w .6 .ensures))
+    or-else (λ w. was-event d _ _ _ (w .0 .rest) (w .1 .ensures) (w .2 .ensures) (w .8) (w .4 .given .1) (w .7 ∙ rw (w .6 .ensures)))
+    or-else (λ w. was-event d _ _ _ (w .0 .rest) (w .1 .ensures) (w .2 .ensures) (w .9) (w .4 .given .1) (w .8 ∙ w .7 .ensures ∙ rw (w .6 .ensures)))
+    or-else (λ w. was-event d _ _ _ (w .0 .rest) (w .1 .ensures) (w .2 .ensures) (w .7) (w .4 .given .1) (w .6 ∙ w .5 .ensures)))
+    (c .match .came)
 
--- and it is sound
-stays-sound : (c : Met) → sound (c .if1 .c) ≡ true
-unfolding outcomeOf
+-- so the record there is sound
+stays-sound : (c : Met) → sound (c .match .c) ≡ true
+unfolding leaves
 stays-sound c =
-    let l = c .before .before .before .before .before .before .before .loop in
-    ap sound (joined c) ∙ ap (λ (o : Outcome). sound (o .next)) (c .before .before .access .ensures) ∙ sound-group (l .c) _ _ _ (l .inv .3)
-
-log-entry-requires : tie.Need-log-entry-requires Inv-loop μ-loop
-log-entry-requires c κs = stays-sound (c .before)
+    let l = c .before .before .before .before .before .loop in
+    ap (λ (o : Outcome). sound (o .next)) (joined c) ∙ sound-group (l .c) _ _ _ (l .inv .3)
 
 put-eight-requires : tie.Need-put-eight-requires Inv-loop μ-loop
 put-eight-requires c κs =
-    let s = c .before .before .before .before .before .before .before .before in
+    let s = c .before .before .before .before .before .before in
     omega (arith, s .loop-test .taken, s .before .loop .inv .1)
 
 add-i : tie.Need-add-i Inv-loop μ-loop
 add-i c =
-    let s = c .before .before .before .before .before .before .before .before .before .before .before in
+    let s = c .before .before .before .before .before .before .before .before .before in
     omega (arith, s .loop-test .taken, s .before .before .before .before .good)
 
 add-at : tie.Need-add-at Inv-loop μ-loop
 add-at c =
-    let s = c .before .before .before .before .before .before .before .before .before .before .before in
+    let s = c .before .before .before .before .before .before .before .before .before in
     omega (arith, s .loop-test .taken, s .before .loop .inv .1, s .before .loop .inv .2, s .before .before .before .before .good)
 
-loop-less : tie.Need-loop-less Inv-loop μ-loop
-loop-less c = omega (arith, c .before .before .before .before .before .before .before .before .before .before .before .loop-test .taken)
-
 loop-again : tie.Need-loop-again Inv-loop μ-loop
-unfolding outcomeOf leaves
+unfolding leaves
 loop-again c =
-    let s = c .before .before .before .before .before .before .before .before .before .before .before in
+    let s = c .before .before .before .before .before .before .before .before .before in
     let l = s .before .loop in
     let trace = now (s .before .before .before .before .args .trace) in
     let more : l .i + 2 < length trace = omega (arith, s .loop-test .taken) in
     let met = c .before .before .before .before .before in
-    let access = c .before .before .before .before .before .before .before .access in
     let put = c .before .before .put-eight in
     let rest = drop (l .i + 3) trace in
-    let next = joined met ∙ ap (λ (o : Outcome). o .next) (access .ensures) in
-    let left = ap (λ (d : Controller). entryOf (leaves (access .result .answer) d)) (joined met) in
-    let entry = c .before .before .before .log-entry .ensures ∙ left ∙ ap entryOf (access .ensures) in (
+    let entry = c .before .before .before .log-entry .ensures ∙ ap entryOf (joined met) in (
       omega (arith, more),
       omega (arith, more, l .inv .1, put .kept),
       omega (arith, put .kept, l .inv .2),
       stays-sound met,
-      ap (λ (d : Controller). laidAt (l .at + 8) (logOf d rest) (put .last .0)) next
+      ap (λ (o : Outcome). laidAt (l .at + 8) (logOf (o .next) rest) (put .last .0)) (joined met)
           ∙ after-eight (l .at) _ _ (l .log) _ (entry-eight _) (put .ensures ∙ ap (λ (xs : List ℕ). laidAt (l .at) xs (l .log)) entry)
           ∙ sym (ap (λ (xs : List ℕ). laidAt (l .at) xs (l .log)) (log-group trace (l .i) more (l .c)))
           ∙ l .inv .4,
@@ -134,13 +157,61 @@ put-log-spec =
     (λ c. search needs)
     (λ c. search needs)
     (λ c. search needs)
+    (λ c κs. c .before .before .before .before .before .loop .inv .3)
     (λ c κs. search needs)
+    (λ c. search needs)
+    (λ c. omega (arith, parts _ (c .before .before .before .before .before .before .before .before .before .loop .inv .3) .hand))
+    (λ c κs. c .before .before .before .before .before .loop .inv .3)
     (λ c κs. search needs)
-    log-entry-requires
+    (λ c. search needs)
+    (λ c. search needs)
+    (λ c κs. search needs)
+    (λ c. search needs)
+    (λ c. omega (arith, parts _ (c .before .before .before .before .before .before .before .before .before .before .loop .inv .3) .hand))
+    element-write-c
+    (λ c κs. parts _ (c .before .before .before .before .before .before .before .before .before .before .loop .inv .3) .hand)
+    (λ c. search needs)
+    (λ c κs. search needs)
+    (λ c. search needs)
+    (λ c. search needs)
+    (λ c κs. search needs)
+    (λ c. search needs)
+    (λ c κs. search needs)
+    (λ c κs. c .before .before .before .before .before .loop .inv .3)
+    (λ c κs. search needs)
+    (λ c. search needs)
+    (λ c. search needs)
+    (λ c. search needs)
+    (λ c κs. search needs)
+    (λ c. search needs)
+    (λ c κs. search needs)
+    (λ c. search needs)
+    (λ c κs. search needs)
+    (λ c. search needs)
+    (λ c κs. search needs)
+    (λ c. search needs)
+    (λ c κs. search needs)
+    (λ c. search needs)
+    (λ c. omega (arith, parts _ (c .before .before .before .before .before .before .before .before .before .loop .inv .3) .moved))
+    (λ c. search needs)
+    (λ c κs. parts _ (c .before .before .before .before .before .before .before .before .before .before .loop .inv .3) .moved)
+    (λ c. search needs)
+    (λ c κs. search needs)
+    (λ c. search needs)
+    element-write-c-2
+    (λ c. omega (arith, parts _ (c .before .before .before .before .before .before .before .before .before .before .before .loop .inv .3) .moved))
+    (λ c. search needs)
+    (λ c κs. search needs)
+    (λ c. search needs)
+    element-write-c-3
+    (λ c κs. parts _ (c .before .before .before .before .before .before .before .before .before .before .before .loop .inv .3) .moved)
+    (λ c. search needs)
+    (λ c κs. search needs)
+    (λ c κs. stays-sound (c .before))
     put-eight-requires
     add-i
     add-at
-    loop-less
+    (λ c. omega (arith, c .before .before .before .before .before .before .before .before .before .loop-test .taken))
     loop-again
     (λ c. search needs)
     returns)
