@@ -53,11 +53,11 @@ pub(crate) fn end_at(
 pub(crate) fn end_noted(p: Progress, c: Controller, events: usize, sent: usize) -> Ended
     ensures { λ r. ⌜ r ≡ endedOf (follows finishes (reaching p c events)) sent ⌝ }
 {
-    let ending = p.ending;
+    let noted = p.ending;
     let fetched = p.fetched;
     Ended {
         controller: c,
-        ending,
+        ending: noted,
         count: p.count,
         events,
         sent,

@@ -33,24 +33,6 @@ use Rattle.service.specs.declared.progress.Progress.{Progress}
 use Rattle.driver.proofs.Script.{Leads, begun, ended, passes, at-most-one, reached, runs-out, refused, over, on}
 use Rattle.driver.proofs.pairs.run_pairs.Statement.{statement}
 use Rattle.driver.proofs.pairs.run_pairs.Tie as tie
-use Rattle.driver.proofs.pairs.run_pairs.Reads as reads
-use Rattle.driver.proofs.pairs.run_pairs.Lts as lts
-use Rattle.answer.proofs.Answer.value.Reads as value-reads
-use Rattle.control.proofs.turn.Turn.status.Reads as status-reads
-use Rattle.controller.proofs.effect.EventEffect.answer.Reads as answer-reads
-use Rattle.controller.proofs.record.Controller.cursor.Reads as cursor-reads
-use Rattle.controller.proofs.record.Controller.ended.Reads as ended-reads
-use Rattle.controller.proofs.record.Controller.event_effect.Reads as event-effect-reads
-use Rattle.controller.proofs.record.Controller.interrupted.Reads as interrupted-reads
-use Rattle.controller.proofs.record.Controller.reset.Reads as reset-reads
-use Rattle.controller.proofs.record.Controller.stopped.Reads as stopped-reads
-use Rattle.controller.proofs.record.Controller.turned.Reads as turned-reads
-use Rattle.driver.proofs.out_record.note.Reads as note-reads
-use Rattle.driver.proofs.result.end_at.Reads as end-at-reads
-use Rattle.driver.proofs.result.end_noted.Reads as end-noted-reads
-use Rattle.driver.proofs.result.end_with.Reads as end-with-reads
-use Rattle.service.proofs.progress.Progress.reach.Reads as reach-reads
-use Rattle.service.proofs.table.work_at.Reads as work-at-reads
 
 abbrev Inv-loop : tie.InvT-loop
 Inv-loop job payload out₀ script p₀ c₀ events₀ sent₀ i₀ out p c events sent i =
@@ -62,42 +44,7 @@ abbrev μ-loop : tie.MeasureT-loop
 
 -- where the ways of an accepted event meet
 abbrev Met : Type 0
-Met =
-    lts.At-match-came (
-      end-at-reads.Asked,
-      end-at-reads.Learnt,
-      event-effect-reads.Asked,
-      event-effect-reads.Learnt,
-      turned-reads.Asked,
-      turned-reads.Learnt,
-      stopped-reads.Asked,
-      stopped-reads.Learnt,
-      interrupted-reads.Asked,
-      interrupted-reads.Learnt,
-      ended-reads.Asked,
-      ended-reads.Learnt,
-      cursor-reads.Asked,
-      cursor-reads.Learnt,
-      reset-reads.Asked,
-      reset-reads.Learnt,
-      answer-reads.Asked,
-      answer-reads.Learnt,
-      value-reads.Asked,
-      value-reads.Learnt,
-      note-reads.Asked,
-      note-reads.Learnt,
-      end-noted-reads.Asked,
-      end-noted-reads.Learnt,
-      status-reads.Asked,
-      status-reads.Learnt,
-      reach-reads.Asked,
-      reach-reads.Learnt,
-      work-at-reads.Asked,
-      work-at-reads.Learnt,
-      end-with-reads.Asked,
-      end-with-reads.Learnt,
-    )
-    reads.Pre reads.Post Inv-loop μ-loop
+Met = tie.At-match-came Inv-loop μ-loop
 
 -- the record there is the one after the event
 met : (c : Met) →
