@@ -27,12 +27,12 @@ afterRead c (read.Kept value) = accepts c value
 afterRead c (read.Advanced value) = accepts (withHand c (c .hand + 1)) value
 
 -- flags and turn stored, hand place and moved count back at 0
-abbrev pub set : Controller → Setting → Controller
-set c s = withTurn (withControl (withMoved (withHand c 0) 0) (s .control)) (s .turn)
+abbrev pub setTo : Controller → Setting → Controller
+setTo c s = withTurn (withControl (withMoved (withHand c 0) 0) (s .control)) (s .turn)
 
 unfoldable pub afterControl : Controller → ControlEffect → Outcome
 afterControl c (control.Refused why) = refuses c (refusalNumber why)
-afterControl c (control.Set s) = wrote (set c s)
+afterControl c (control.Set s) = wrote (setTo c s)
 
 unfoldable pub afterWrite : Controller → WriteEffect → Outcome
 afterWrite c (write.Refused why) = refuses c (refusalNumber why)
@@ -40,7 +40,7 @@ afterWrite c (write.Pointed pointer) = wrote (withPointer c pointer)
 afterWrite c (write.Loaded byte) = wrote (withHand (withPlace c (c .hand) byte) (c .hand + 1))
 afterWrite c (write.Registered value) = wrote (withRegisters c (stored (c .registers) (c .pointer) value))
 afterWrite c (write.Armed armed) = accepts (withArmed c armed) 0
-afterWrite c (write.Set s) = wrote (set c s)
+afterWrite c (write.Set s) = wrote (setTo c s)
 afterWrite c write.Reset = accepts (reset c) 0
 
 -- own STOP

@@ -8,7 +8,7 @@ ghost use mathlib.Core.Path.{_≡_};
 ghost use Prim.Native.Nat.{_+_, _≤_};
 ghost use Rattle.control.specs.declared.turn.Edge.the-variants.{Stop};
 ghost use Rattle.control.specs.declared.turn.Turn.the-variants.{Host, Free};
-ghost use Rattle.controller.specs.Effect.{set as sets, stopped as stops};
+ghost use Rattle.controller.specs.Effect.{setTo, stopped as stops};
 ghost use Rattle.controller.specs.Registers.{stored};
 ghost use Rattle.controller.specs.Setters.{withHand, withPointer, withArmed, withRegisters, withTurn};
 ghost use Rattle.controller.specs.Transfer.{counted};
@@ -89,7 +89,7 @@ impl Controller {
 
     // I2CCON was written.
     pub fn set(self, s: Setting) -> Controller
-        ensures { λ r. ⌜ r ≡ withArmed (sets self s) false ⌝ }
+        ensures { λ r. ⌜ r ≡ withArmed (setTo self s) false ⌝ }
     {
         let buffer = self.buffer;
         let registers = self.registers;

@@ -62,8 +62,8 @@ pub(crate) fn run_pairs(
                 c.moved += 1;
             }
             EventEffect::StoredLast(status, byte, _) => {
-                let cursor = c.cursor() as usize;
-                c.buffer[cursor] = byte;
+                let last = c.cursor() as usize;
+                c.buffer[last] = byte;
                 c = c.ended(status);
             }
             EventEffect::Reset => c = c.reset(),

@@ -54,12 +54,12 @@ module _ {c d : Controller} {e : EventEffect} where
 
   -- a byte is stored at the cursor
   module _ {byte at : ℕ} (place : at ≡ cursor c) where
-    pub stored : e ≡ event.Stored byte → d ≡ counted (withPlace c at byte) → Applied c e d
+    pub stored-applied : e ≡ event.Stored byte → d ≡ counted (withPlace c at byte) → Applied c e d
     unfolding afterEvent accepts received
-    stored q next = applied q (next ∙ ap (λ (i : ℕ). counted (withPlace c i byte)) place) refl
+    stored-applied q next = applied q (next ∙ ap (λ (i : ℕ). counted (withPlace c i byte)) place) refl
 
-    pub stored-last : {status value : ℕ} → e ≡ event.StoredLast status byte value →
+    pub stored-last-applied : {status value : ℕ} → e ≡ event.StoredLast status byte value →
         d ≡ withHand (withTurn (counted (withPlace c at byte)) (Host status Stop)) 0 → Applied c e d
     unfolding afterEvent accepts interruptsAt received
-    stored-last {status} q next =
+    stored-last-applied {status} q next =
         applied q (next ∙ ap (λ (i : ℕ). withHand (withTurn (counted (withPlace c i byte)) (Host status Stop)) 0) place) refl

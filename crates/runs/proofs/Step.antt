@@ -19,12 +19,12 @@ use Rattle.controller.specs.Setters.{withHand, withTurn}
 use Rattle.controller.specs.declared.record.Controller.{Controller}
 use Rattle.driver.specs.Run.{taking}
 use Rattle.laws.proofs.Addresses.{silent-without-aa}
-use Rattle.laws.proofs.Status.{status-reads}
 use Rattle.notation.proofs.Among.{has, every, same, clash}
 use Rattle.notation.proofs.Cases.{if-true, if-false}
 use Rattle.notation.specs.Choice.{if_then_else_}
 use Rattle.runs.proofs.Invariant.{In, jobTurns, earlyTurns, limit, carriedAfter, sentAfter, Good, Stepped, ended, going}
 use Rattle.runs.proofs.Lines.{Line}
+use Rattle.service.proofs.AnyTable.{at-idle, at-status}
 use Rattle.service.specs.Act.{ends, Work, reads, follows, performs}
 use Rattle.service.specs.Serve.{Table, serve}
 use Rattle.service.specs.declared.job.Job.{Job}
@@ -38,15 +38,6 @@ pub record KeepsOrEnds (table : Table) (job : Job) (payload carried : List ℕ) 
 -- the record after an event that gave a status
 abbrev pub hosted : Controller → ℕ → Controller
 hosted c status = withHand (withTurn c (turn.Host status Stop)) 0
-
--- the driver's work by the status, after a pair that is neither own STOP nor a reset
-serve-status : (table : Table) (p : Progress) (d : Controller) (number : ℕ) → eqb number 14 ≡ false → eqb number 4 ≡ false → sound d ≡ true →
-    serve table number (taking p d)
-    ≡ (if eqb (statusOf (d .turn)) 0xF8 then taking p d else performs (table (statusOf (d .turn)) (p .count)) (taking p d))
-unfolding serve taking reads
-serve-status table p d number h k s =
-    if-false _ _ _ h ∙ if-false _ _ _ k
-    ∙ ap (λ (x : ℕ). if eqb x 0xF8 then taking p d else performs (table x (p .count)) (taking p d)) (status-reads d s)
 
 module _ (table : Table) {job : Job} {payload carried : List ℕ} {sent : ℕ} {p : Progress} (g : Good job payload carried sent p) where
   abbrev S : ℕ → ℕ → Outcome → Type 0
@@ -64,12 +55,12 @@ module _ (table : Table) {job : Job} {payload carried : List ℕ} {sent : ℕ} {
       eqb status 0xF8 ≡ false → eqb number 14 ≡ false → eqb number 4 ≡ false →
       (sound (hosted c status) ≡ true → Stepped job payload carried sent number argument (performs w (taking p (hosted c status)))) →
       S number argument (gives c status value)
-  unfolding interruptsAt accepts statusOf
+  unfolding interruptsAt accepts statusOf taking
   hosting number argument c status value line n h k f =
       record {
         step = λ s r.
             subst (Stepped job payload carried sent number argument)
-            (sym (serve-status table p (hosted c status) number h k s ∙ if-false _ _ _ n
+            (sym (at-status table number (taking p (hosted c status)) h k s n
             ∙ ap (λ (w : Work). performs w (taking p (hosted c status))) (line (p .count)))) (f s);
       }
 
@@ -77,12 +68,12 @@ module _ (table : Table) {job : Job} {payload carried : List ℕ} {sent : ℕ} {
   pub idling : (number argument : ℕ) (d : Controller) (value : ℕ) → eqb number 14 ≡ false → eqb number 4 ≡ false → statusOf (d .turn) ≡ 0xF8 →
       (sound d ≡ true → Good job payload (carriedAfter number argument carried) (sentAfter number sent) (taking p d)) →
       S number argument (accepts d value)
-  unfolding accepts
+  unfolding accepts taking
   idling number argument d value h k t f =
       record {
         step = λ s r.
             subst (Stepped job payload carried sent number argument)
-            (sym (serve-status table p d number h k s ∙ if-true _ _ _ (ap (λ (x : ℕ). eqb x 0xF8) t))) (going k (f s));
+            (sym (at-idle table number (taking p d) h k s (ap (λ (x : ℕ). eqb x 0xF8) t))) (going k (f s));
       }
 
 module _ {job : Job} {payload carried : List ℕ} {sent : ℕ} {p : Progress} (g : Good job payload carried sent p) where

@@ -1,5 +1,5 @@
 -- What the driver's register accesses leave, where a job makes them. Assumes nothing.
-use mathlib.Core.Bool.{Bool, true, false}
+use mathlib.Core.Bool.{true, false}
 use mathlib.Core.Path.{_≡_, refl, ap, _∙_}
 use Prim.Native.Nat.{ℕ, _+_, _%_, _<_}
 use native.Mathlib.Omega.{arith}
@@ -20,7 +20,7 @@ use Rattle.controller.specs.Reply.{Outcome, refuses, accepts}
 use Rattle.controller.specs.declared.record.Controller.{Controller}
 use Rattle.notation.proofs.Cases.{split}
 use Rattle.notation.specs.Choice.{if_then_else_, _and_, _or_, among}
-use Rattle.service.specs.Act.{put, reads}
+use Rattle.service.specs.Act.{put}
 
 -- the record after an accepted I2CCON write
 abbrev pub controlledTo : Controller → Control → Turn → Controller
@@ -81,20 +81,6 @@ pub data-read : (c : Controller) → sound c ≡ true → among (kind (c .turn))
     readOf c 1 ≡ accepts (withHand c (c .hand + 1)) (place c (c .hand))
 unfolding readOf readSound indirectAt barsRead readData if_then_else_ _and_
 data-read c s w h = rw (s, w, ne-eqb (c .hand) 68 (omega arith))
-
--- register 0 reads the status
-never : (b : Bool) → (b and false) ≡ false
-unfolding _and_ if_then_else_
-never true = refl
-never false = refl
-
-status-accepted : (c : Controller) → sound c ≡ true → readOf c 0 ≡ accepts c (statusOf (c .turn))
-unfolding readOf readSound indirectAt barsRead if_then_else_ _and_
-status-accepted c s = rw (s, never (among (kind (c .turn)) wireTurns))
-
-pub status-read : (c : Controller) → sound c ≡ true → reads c 0 ≡ statusOf (c .turn)
-unfolding reads accepts
-status-read c s = ap (λ (o : Outcome). o .value) (status-accepted c s)
 
 -- a read of register 2 changes nothing
 pub count-read : (c : Controller) → (readOf c 2) .next ≡ c

@@ -1,4 +1,4 @@
--- What the run over pairs needs of a service, whatever its table: its work takes no pair, and when there is which. Assumes nothing.
+-- What the run over pairs needs of a service, whatever its table: its work takes no pair, and what it does after each. Assumes nothing.
 use mathlib.Core.Bool.{Bool, true, false}
 use mathlib.Core.List.{List, [], _∷_}
 use mathlib.Core.Path.{_≡_, refl, ap, _∙_}
@@ -7,6 +7,7 @@ use lib.Dec.{eqb}
 use Rattle.answer.specs.declared.ending.Ending.the-variants.{Reset}
 use Rattle.control.specs.Turn.{statusOf}
 use Rattle.controller.specs.Record.{sound}
+use Rattle.laws.proofs.Status.{status-reads}
 use Rattle.notation.proofs.Cases.{if-true, if-false}
 use Rattle.notation.specs.Choice.{if_then_else_}
 use Rattle.service.specs.Act.{
@@ -32,7 +33,6 @@ use Rattle.service.specs.Act.{
 }
 use Rattle.service.specs.Serve.{Table, serve}
 use Rattle.service.specs.declared.progress.Progress.{Progress}
-use Rattle.service.proofs.AccessesLeave.{status-read}
 
 -- no act takes a pair: the number of them stays
 fetch-events : (more i : ℕ) (p : Progress) → (fetch more i p) .events ≡ p .events
@@ -73,25 +73,25 @@ serve-events table event p =
 
 -- Of a sound record: event 14 and own STOP end the job, at F8h the driver waits, and at any other status it goes by the table.
 module _ (table : Table) (event : ℕ) (p : Progress) where
-  pub resets : event ≡ 14 → serve table event p ≡ follows (ends Reset) p
+  pub at-reset : event ≡ 14 → serve table event p ≡ follows (ends Reset) p
   unfolding serve if_then_else_
-  resets e = rw e
+  at-reset e = rw e
 
-  pub stops : event ≡ 4 → serve table event p ≡ follows finishes p
+  pub at-stop : event ≡ 4 → serve table event p ≡ follows finishes p
   unfolding serve if_then_else_
-  stops e = rw e
+  at-stop e = rw e
 
   module _ (not-reset : eqb event 14 ≡ false) (not-stop : eqb event 4 ≡ false) (s : sound (p .controller) ≡ true) where
     by-status : serve table event p ≡
         (if eqb (statusOf (p .controller .turn)) 0xF8 then p else performs (table (statusOf (p .controller .turn)) (p .count)) p)
-    unfolding serve
+    unfolding serve reads
     by-status =
         if-false _ _ _ not-reset ∙ if-false _ _ _ not-stop
-        ∙ ap (λ (status : ℕ). if eqb status 0xF8 then p else performs (table status (p .count)) p) (status-read (p .controller) s)
+        ∙ ap (λ (status : ℕ). if eqb status 0xF8 then p else performs (table status (p .count)) p) (status-reads (p .controller) s)
 
-    pub waits : eqb (statusOf (p .controller .turn)) 0xF8 ≡ true → serve table event p ≡ p
-    waits e = by-status ∙ if-true _ _ _ e
+    pub at-idle : eqb (statusOf (p .controller .turn)) 0xF8 ≡ true → serve table event p ≡ p
+    at-idle e = by-status ∙ if-true _ _ _ e
 
-    pub works : eqb (statusOf (p .controller .turn)) 0xF8 ≡ false →
+    pub at-status : eqb (statusOf (p .controller .turn)) 0xF8 ≡ false →
         serve table event p ≡ performs (table (statusOf (p .controller .turn)) (p .count)) p
-    works e = by-status ∙ if-false _ _ _ e
+    at-status e = by-status ∙ if-false _ _ _ e

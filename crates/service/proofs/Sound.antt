@@ -21,15 +21,15 @@ written-sound [] c s = s
 written-sound (x ∷ xs) c s = written-sound xs _ (write-stays-sound c 1 x s)
 
 -- the record held is sound
-abbrev pub Holds : Progress → Type 0
-Holds p = sound (p .controller) ≡ true
+abbrev pub KeepsSound : Progress → Type 0
+KeepsSound p = sound (p .controller) ≡ true
 
-fetch-sound : (more i : ℕ) (p : Progress) → Holds p → Holds (fetch more i p)
+fetch-sound : (more i : ℕ) (p : Progress) → KeepsSound p → KeepsSound (fetch more i p)
 unfolding fetch fetchOne
 fetch-sound zero i p s = s
 fetch-sound (suc more) i p s = fetch-sound more (i + 1) (fetchOne i p) (read-stays-sound (p .controller) 1 s)
 
-pub does-sound : (x : Act) (p : Progress) → Holds p → Holds (does x p)
+pub does-sound : (x : Act) (p : Progress) → KeepsSound p → KeepsSound (does x p)
 unfolding does fetchOne
 does-sound (writes register value) p s = put-sound (p .controller) register value s
 does-sound (readsData at) p s = read-stays-sound (p .controller) 1 s
@@ -37,18 +37,18 @@ does-sound readsAll p s = fetch-sound (readTimes (p .count)) 0 p s
 does-sound readsCount p s = read-stays-sound (p .controller) 2 s
 does-sound (counts count) p s = s
 
-pub acts-sound : (xs : List Act) (p : Progress) → Holds p → Holds (doesAll xs p)
+pub acts-sound : (xs : List Act) (p : Progress) → KeepsSound p → KeepsSound (doesAll xs p)
 unfolding doesAll
 acts-sound [] p s = s
 acts-sound (x ∷ xs) p s = acts-sound xs (does x p) (does-sound x p s)
 
-follows-sound : (t : Then) (p : Progress) → Holds p → Holds (follows t p)
+follows-sound : (t : Then) (p : Progress) → KeepsSound p → KeepsSound (follows t p)
 unfolding follows
 follows-sound goesOn p s = s
 follows-sound (awaits ending) p s = s
 follows-sound (ends ending) p s = s
 follows-sound finishes p s = s
 
-pub performs-sound : (w : Work) (p : Progress) → Holds p → Holds (performs w p)
+pub performs-sound : (w : Work) (p : Progress) → KeepsSound p → KeepsSound (performs w p)
 unfolding performs
 performs-sound w p s = follows-sound (w .after) _ (acts-sound (w .acts) p s)

@@ -1,4 +1,4 @@
-// Register writes of a sound record, by which alone a driver acts on the controller: the record after each.
+// Register writes of a sound record: the record after each.
 use controller::effect::ControlEffect;
 use controller::record::Controller;
 ghost use mathlib.Core.Bool.{true, false};

@@ -20,10 +20,10 @@ use Rattle.controller.specs.declared.effect.EventEffect.{EventEffect}
 use Rattle.controller.specs.declared.record.Controller.{Controller}
 use Rattle.driver.specs.Run.{Run, endedOf, endedResult, run, closes, taking}
 use Rattle.driver.specs.declared.result.Ended.{Ended}
-use Rattle.laws.proofs.InPlace.{stored-below, stored-last-below, Applied, applied, stored, stored-last}
+use Rattle.laws.proofs.InPlace.{stored-below, stored-last-below, Applied, applied, stored-applied, stored-last-applied}
 use Rattle.laws.proofs.Soundness.{event-stays-sound}
 use Rattle.notation.specs.Overlay.{laid}
-use Rattle.service.proofs.AnyTable.{serve-events, resets, stops, waits, works}
+use Rattle.service.proofs.AnyTable.{serve-events, at-reset, at-stop, at-idle, at-status}
 use Rattle.service.proofs.Sound.{performs-sound}
 use Rattle.service.specs.Act.{ends, finishes, follows, performs}
 use Rattle.service.specs.JobTable.{jobTable}
@@ -60,8 +60,8 @@ met c =
     (⊎-elim (λ w. (applied (w .1 .given .1) (w .4 ∙ w .3 .ensures) refl, w .5 ∙ sym (w .1 .given .1)))
     (⊎-elim (λ w. (applied (w .1 .given .1) (w .2) refl, w .3))
     (⊎-elim (λ w. (applied (w .1 .given .1) (w .4 ∙ w .3 .ensures) refl, w .5 ∙ sym (w .1 .given .1)))
-    (⊎-elim (λ w. (stored (w .3 .ensures) (w .1 .given .1) (w .4), w .5 ∙ sym (w .1 .given .1)))
-    (⊎-elim (λ w. (stored-last (w .3 .ensures) (w .1 .given .1) (w .5 ∙ w .4 .ensures), w .6 ∙ sym (w .1 .given .1)))
+    (⊎-elim (λ w. (stored-applied (w .3 .ensures) (w .1 .given .1) (w .4), w .5 ∙ sym (w .1 .given .1)))
+    (⊎-elim (λ w. (stored-last-applied (w .3 .ensures) (w .1 .given .1) (w .5 ∙ w .4 .ensures), w .6 ∙ sym (w .1 .given .1)))
     (λ w. (applied (w .1 .given .1) (w .3 ∙ w .2 .ensures) refl, w .4)))))))))))
     (c .match .came)
 
@@ -169,7 +169,7 @@ loop-again c =
     ∙ ap (λ (e : EventEffect). (afterEvent (l .c) e) .value) (met m .1) in
     let sound-next = ap sound (sym (met m .0 .next)) ∙ next-sound m in
     let idle = ap (λ (d : Controller). eqb (statusOf (d .turn)) 0xF8) (sym (met m .0 .next)) ∙ ap (λ (n : ℕ). eqb n 0xF8) (sym (c .before .status .ensures) ∙ c .if2 .taken) in
-    let served = same m ∙ sym (waits table number (given m) (ne-eqb number 14 (c .before .before .match2 .rest .0 .1)) (ne-eqb number 4 (c .before .before .match2 .rest .1)) sound-next idle) in
+    let served = same m ∙ sym (at-idle table number (given m) (ne-eqb number 14 (c .before .before .match2 .rest .0 .1)) (ne-eqb number 4 (c .before .before .match2 .rest .1)) sound-next idle) in
     let pair = on table p script (l .i) more o (m .before .event-effect .ensures) (met m .0 .accepted) _ value (after m) served (l .inv .4) refl in (
       omega (arith, more),
       omega (arith, l .inv .1),
@@ -216,7 +216,7 @@ loop-again-2 c =
     ∙ ap (λ (t : Progress). performs (table (status .result) (t .count)) t) (reach ∙ same m)
     ∙ ap (λ (n : ℕ). performs (table n ((given m) .count)) (given m))
     (status .ensures ∙ ap (λ (d : Controller). statusOf (d .turn)) (met m .0 .next))
-    ∙ sym (works table number (given m) (ne-eqb number 14 (c .before .before .before .before .before .before .match2 .rest .0 .1)) (ne-eqb number 4 (c .before .before .before .before .before .before .match2 .rest .1)) sound-next busy) in
+    ∙ sym (at-status table number (given m) (ne-eqb number 14 (c .before .before .before .before .before .before .match2 .rest .0 .1)) (ne-eqb number 4 (c .before .before .before .before .before .before .match2 .rest .1)) sound-next busy) in
     let events = ap (λ (t : Progress). t .events) served ∙ serve-events table number (given m) in
     let held = ap (λ (t : Progress). sound (t .controller)) (c .before .before .work-at .ensures) ∙ performs-sound _ _ (ap (λ (t : Progress). sound (t .controller)) reach ∙ next-sound m) in
     let lasts = c .if3 .left in
@@ -282,7 +282,7 @@ returns-3 c =
     c .before .before .before .before .before .value .ensures ∙ c .before .before .before .before .before .before .before .answer .ensures .1 (l .c)
     ∙ ap (λ (e : EventEffect). (afterEvent (l .c) e) .value) (met m .1) in
     let q = follows (ends Reset) (after m) in
-    let served = ap (follows (ends Reset)) (same m) ∙ sym (resets table number (given m) (c .before .match2 .keys1)) in
+    let served = ap (follows (ends Reset)) (same m) ∙ sym (at-reset table number (given m) (c .before .match2 .keys1)) in
     let pair = over table p script (l .i) more o (m .before .event-effect .ensures) (met m .0 .accepted) _ value q served refl in
     over-with (c .end-at3 .result) q refl (c .end-at3 .ensures) (passes number _ pair (note .0) (note .1 .1) (l .inv .6))
 
@@ -307,7 +307,7 @@ returns-4 c =
     c .before .before .before .before .before .value .ensures ∙ c .before .before .before .before .before .before .before .answer .ensures .1 (l .c)
     ∙ ap (λ (e : EventEffect). (afterEvent (l .c) e) .value) (met m .1) in
     let q = follows finishes (after m) in
-    let served = ap (follows finishes) (same m) ∙ sym (stops table number (given m) (c .before .match2 .keys2)) in
+    let served = ap (follows finishes) (same m) ∙ sym (at-stop table number (given m) (c .before .match2 .keys2)) in
     let pair = over table p script (l .i) more o (m .before .event-effect .ensures) (met m .0 .accepted) _ value q served refl in
     over-with (c .end-noted .result) q refl (c .end-noted .ensures) (passes number _ pair (note .0) (note .1 .1) (l .inv .6))
 
@@ -343,7 +343,7 @@ returns-5 c =
     ∙ ap (λ (t : Progress). performs (table (status .result) (t .count)) t) (reach ∙ same m)
     ∙ ap (λ (n : ℕ). performs (table n ((given m) .count)) (given m))
     (status .ensures ∙ ap (λ (d : Controller). statusOf (d .turn)) (met m .0 .next))
-    ∙ sym (works table number (given m) (ne-eqb number 14 (c .before .before .before .before .before .before .before .match2 .rest .0 .1)) (ne-eqb number 4 (c .before .before .before .before .before .before .before .match2 .rest .1)) sound-next busy) in
+    ∙ sym (at-status table number (given m) (ne-eqb number 14 (c .before .before .before .before .before .before .before .match2 .rest .0 .1)) (ne-eqb number 4 (c .before .before .before .before .before .before .before .match2 .rest .1)) sound-next busy) in
     let pair = over table p script (l .i) more o (m .before .event-effect .ensures) (met m .0 .accepted) _ value q served (c .before .if3 .taken) in
     over-with (c .end-with .result) q refl (c .end-with .ensures) (passes number _ pair (note .0) (note .1 .1) (l .inv .6))
 

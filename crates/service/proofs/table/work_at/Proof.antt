@@ -12,7 +12,7 @@ use Rattle.notation.proofs.Among.{none-of}
 use Rattle.notation.proofs.Cases.{cases}
 use Rattle.notation.specs.Choice.{if_then_else_, among}
 use Rattle.service.proofs.Blocks.{load-block}
-use Rattle.service.proofs.Sound.{Holds, does-sound, acts-sound}
+use Rattle.service.proofs.Sound.{KeepsSound, does-sound, acts-sound}
 use Rattle.service.specs.Act.{Work, writes, readsAll, counts, does, doesAll, follows, performs}
 use Rattle.service.specs.JobSteps.{goOnAfter, stopAfter, endAfter}
 use Rattle.service.specs.JobTable.{jobTable}
@@ -45,19 +45,19 @@ put-control-requires : tie.Need-put-control-requires
 put-control-requires c κs = c .before .before .before .pre
 
 stop-requires : tie.Need-stop-requires
-stop-requires c κs = subst Holds (sym (c .note-count .ensures)) (does-sound _ _ (c .before .before .before .before .pre))
+stop-requires c κs = subst KeepsSound (sym (c .note-count .ensures)) (does-sound _ _ (c .before .before .before .before .pre))
 
 stop-requires-2 : tie.Need-stop-requires-2
-stop-requires-2 c κs = subst Holds (sym (c .note-count2 .ensures)) (does-sound _ _ (c .before .before .before .before .pre))
+stop-requires-2 c κs = subst KeepsSound (sym (c .note-count2 .ensures)) (does-sound _ _ (c .before .before .before .before .pre))
 
 find-moved-requires : tie.Need-find-moved-requires
 find-moved-requires c κs = c .before .before .before .pre
 
 stop-requires-3 : tie.Need-stop-requires-3
-stop-requires-3 c κs = subst Holds (sym (c .find-moved .ensures)) (acts-sound _ _ (c .before .before .before .before .pre))
+stop-requires-3 c κs = subst KeepsSound (sym (c .find-moved .ensures)) (acts-sound _ _ (c .before .before .before .before .pre))
 
 stop-requires-4 : tie.Need-stop-requires-4
-stop-requires-4 c κs = subst Holds (sym (c .read-all .ensures ∙ ap (does readsAll) (c .before .note-count3 .ensures))) (does-sound readsAll _ (does-sound _ _ (c .before .before .before .before .before .pre)))
+stop-requires-4 c κs = subst KeepsSound (sym (c .read-all .ensures ∙ ap (does readsAll) (c .before .note-count3 .ensures))) (does-sound readsAll _ (does-sound _ _ (c .before .before .before .before .before .pre)))
 
 put-control-requires-2 : tie.Need-put-control-requires-2
 put-control-requires-2 c κs = c .before .before .before .pre

@@ -2,7 +2,7 @@
 use mathlib.Core.List.{[], _∷_}
 use mathlib.Core.Path.{subst, sym, ap, _∙_}
 use borrow.Author.Needs.{needs}
-use Rattle.service.proofs.Sound.{Holds, acts-sound}
+use Rattle.service.proofs.Sound.{KeepsSound, acts-sound}
 use Rattle.service.specs.Act.{does, doesAll, writes, readsCount}
 use Rattle.service.specs.Progress.{withRecord}
 use Rattle.service.proofs.progress.Progress.find_moved.Statement.{statement}
@@ -17,7 +17,7 @@ put-pointer-requires-2 c κs =
     let s = c .before .before in
     let start = s .before .before .before in
     let pointed = s .with-record .ensures ∙ ap (withRecord (start .args .self)) (s .before .put-pointer .ensures) in
-    subst Holds (sym (c .before .count-read .ensures ∙ ap (does readsCount) pointed))
+    subst KeepsSound (sym (c .before .count-read .ensures ∙ ap (does readsCount) pointed))
     (acts-sound (writes 0 0x07 ∷ readsCount ∷ []) (start .args .self) (start .pre))
 
 returns : tie.Need-returns
