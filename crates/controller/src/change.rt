@@ -1,4 +1,4 @@
-// The record with what an effect changes.
+// The record with what an effect changes. (None touches the buffer: a byte is stored where the record is held.)
 use crate::effect::Setting;
 use crate::record::Controller;
 use control::turn::Edge;
@@ -14,6 +14,7 @@ ghost use Rattle.controller.specs.Setters.{withHand, withPointer, withAr
 ghost use Rattle.controller.specs.Transfer.{counted};
 
 impl Controller {
+    // The controller waits for something else.
     pub fn turned(self, turn: Turn) -> Controller
         ensures { λ r. ⌜ r ≡ withTurn self turn ⌝ }
     {

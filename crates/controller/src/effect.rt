@@ -72,6 +72,7 @@ pub enum EventEffect {
 }
 
 impl ReadEffect {
+    // Refused, or accepted with the value: what the effect answers, whatever the record.
     pub fn answer(self) -> Answer
         ensures refused { λ r. ⌜ ((c : Controller) → refusalOf r ≡ (afterRead c self) .refused) ⌝ }
         ensures value { λ r. ⌜ ((c : Controller) → valueOf r ≡ (afterRead c self) .value) ⌝ }
@@ -97,6 +98,7 @@ impl ControlEffect {
 }
 
 impl WriteEffect {
+    // The value of a write is 0.
     pub fn answer(self) -> Answer
         ensures refused { λ r. ⌜ ((c : Controller) → refusalOf r ≡ (afterWrite c self) .refused) ⌝ }
         ensures value { λ r. ⌜ ((c : Controller) → valueOf r ≡ (afterWrite c self) .value) ⌝ }
@@ -114,6 +116,7 @@ impl WriteEffect {
 }
 
 impl EventEffect {
+    // The value of an event: of event 6 the byte, 1 for a NACK in events 5, 7 and 8, else 0.
     pub fn answer(self) -> Answer
         ensures refused { λ r. ⌜ ((c : Controller) → refusalOf r ≡ (afterEvent c self) .refused) ⌝ }
         ensures value { λ r. ⌜ ((c : Controller) → valueOf r ≡ (afterEvent c self) .value) ⌝ }

@@ -41,7 +41,7 @@ impl Controller {
         }
     }
 
-    // A byte at a place of the buffer.
+    // A byte at a place of the buffer, if there is such a place.
     fn with_place(mut self, place: u8, byte: u8) -> Controller
         ensures { λ r. ⌜ r ≡ withPlace self place byte ⌝ }
     {
@@ -52,6 +52,7 @@ impl Controller {
         self
     }
 
+    // What a read makes of the record, and its answer.
     pub(crate) fn after_read(mut self, effect: ReadEffect) -> Reply
         requires { ⌜ sound self ≡ true ⌝ }
         ensures { λ r. ⌜ outcomeOf r ≡ afterRead self effect ⌝ }
@@ -66,6 +67,7 @@ impl Controller {
         }
     }
 
+    // The same of a write.
     pub(crate) fn after_write(mut self, effect: WriteEffect) -> Reply
         requires { ⌜ sound self ≡ true ⌝ }
         ensures { λ r. ⌜ outcomeOf r ≡ afterWrite self effect ⌝ }
@@ -84,6 +86,7 @@ impl Controller {
         }
     }
 
+    // The same of an event.
     pub(crate) fn after_event(mut self, effect: EventEffect) -> Reply
         requires { ⌜ sound self ≡ true ⌝ }
         ensures { λ r. ⌜ outcomeOf r ≡ afterEvent self effect ⌝ }
