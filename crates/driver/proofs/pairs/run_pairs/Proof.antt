@@ -1,6 +1,6 @@
 -- `run_pairs` is `run`: the run over what is left of the script, from the progress so far, always leads to what the whole run gives.
 use mathlib.Core.Bool.{true, false}
-use mathlib.Core.List.{List}
+use mathlib.Core.List.{List, _∷_}
 use mathlib.Core.Logic.{⊎-elim}
 use mathlib.Core.Path.{_≡_, refl, sym, ap, _∙_}
 use Prim.Native.Nat.{ℕ, _≤_, _-_, _+_, _<_}
@@ -22,13 +22,14 @@ use Rattle.driver.specs.Run.{Run, endedOf, endedResult, run, closes, tak
 use Rattle.driver.specs.declared.result.Ended.{Ended}
 use Rattle.laws.proofs.InPlace.{stored-below, stored-last-below, Applied, applied, stored-applied, stored-last-applied}
 use Rattle.laws.proofs.Soundness.{event-stays-sound}
-use Rattle.notation.specs.Overlay.{laid}
+use Rattle.notation.specs.Choice.{if_then_else_}
+use Rattle.notation.specs.Overlay.{laid, laidAt}
 use Rattle.service.proofs.AnyTable.{serve-events, at-reset, at-stop, at-idle, at-status}
 use Rattle.service.proofs.Sound.{performs-sound}
 use Rattle.service.specs.Act.{ends, finishes, follows, performs}
 use Rattle.service.specs.JobTable.{jobTable}
 use Rattle.service.specs.Progress.{reaching}
-use Rattle.service.specs.Serve.{serve}
+use Rattle.service.specs.Serve.{Table, serve}
 use Rattle.service.specs.declared.progress.Progress.{Progress}
 use Rattle.driver.proofs.Script.{Leads, begun, ended, passes, at-most-one, reached, runs-out, refused, over, on}
 use Rattle.driver.proofs.pairs.run_pairs.Statement.{statement}
@@ -46,7 +47,50 @@ abbrev μ-loop : tie.MeasureT-loop
 abbrev Met : Type 0
 Met = tie.At-match-came Inv-loop μ-loop
 
--- the record there is the one after the event
+abbrev script : Met → List ℕ
+script c = now (c .before .before .before .before .before .before .before .before .before .before .args .script)
+
+abbrev table : Met → Table
+table c =
+    let s = c .before .before .before .before .before .before .before .before .before .before in
+    jobTable (s .args .job) (now (s .args .payload))
+
+-- the event of the pair, and what the controller made of it
+abbrev number : Met → ℕ
+number c = getD (script c) (c .before .before .before .before .before .loop .i) 0
+
+abbrev outcome : Met → Outcome
+outcome c = afterEvent (c .before .before .before .before .before .loop .c) (c .before .event-effect .result)
+
+-- the progress before the pair; after it, before the driver's work, with the record in hand; and the same by the definitions
+abbrev before-pair : Met → Progress
+before-pair c =
+    let l = c .before .before .before .before .before .loop in
+    reaching (l .p) (l .c) (l .events)
+
+abbrev sent-before : Met → ℕ
+sent-before c = c .before .before .before .before .before .loop .sent
+
+abbrev out-before : Met → List ℕ
+out-before c = c .before .before .before .before .before .loop .out
+
+-- what is left of the script, the whole run, and the out record as lent
+abbrev rest : Met → List ℕ
+rest c = drop (c .before .before .before .before .before .loop .i + 2) (script c)
+
+abbrev lent : Met → List ℕ
+lent c = now (c .before .before .before .before .before .before .before .before .before .before .args .out)
+
+abbrev whole : Met → Run
+whole c = run (table c) (c .before .before .before .before .before .before .before .before .before .before .args .start) (script c)
+
+abbrev after : Met → Progress
+after c = taking (before-pair c) (c .match .c)
+
+abbrev given : Met → Progress
+given c = taking (before-pair c) (outcome c .next)
+
+-- the record in hand is the one after the event
 met : (c : Met) →
     Applied (c .before .before .before .before .before .loop .c) (c .before .event-effect .result) (c .match .c) ×
     (c .match .effect ≡ c .before .event-effect .result)
@@ -65,6 +109,9 @@ met c =
     (λ w. (applied (w .1 .given .1) (w .3 ∙ w .2 .ensures) refl, w .4)))))))))))
     (c .match .came)
 
+same : (c : Met) → after c ≡ given c
+same c = ap (taking (before-pair c)) (met c .0 .next)
+
 -- and it is sound
 next-sound : (c : Met) → sound (c .match .c) ≡ true
 next-sound c =
@@ -72,22 +119,41 @@ next-sound c =
     let next = met c .0 .next ∙ ap (λ (o : Outcome). o .next) (c .before .event-effect .ensures) in
     ap sound next ∙ event-stays-sound (l .c) _ _ (l .inv .5)
 
--- the progress after the pair, before the driver's work
-abbrev after : (c : Met) → Progress
-after c =
-    let l = c .before .before .before .before .before .loop in
-    taking (reaching (l .p) (l .c) (l .events)) (c .match .c)
+given-sound : (c : Met) → sound (outcome c .next) ≡ true
+given-sound c = ap sound (sym (met c .0 .next)) ∙ next-sound c
 
--- what the definitions take for it
-abbrev given : (c : Met) → Progress
-given c =
-    let l = c .before .before .before .before .before .loop in
-    taking (reaching (l .p) (l .c) (l .events)) ((afterEvent (l .c) (c .before .event-effect .result)) .next)
+given-status : (c : Met) → eqb (statusOf (c .match .c .turn)) 0xF8 ≡ eqb (statusOf (outcome c .next .turn)) 0xF8
+given-status c = ap (λ (d : Controller). eqb (statusOf (d .turn)) 0xF8) (met c .0 .next)
 
-same : (c : Met) → after c ≡ given c
-same c =
-    let l = c .before .before .before .before .before .loop in
-    ap (λ (d : Controller). taking (reaching (l .p) (l .c) (l .events)) d) (met c .0 .next)
+effect-value : (c : Met) → (afterEvent (c .before .before .before .before .before .loop .c) (c .match .effect)) .value ≡ outcome c .value
+effect-value c = ap (λ (e : EventEffect). (afterEvent (c .before .before .before .before .before .loop .c) e) .value) (met c .1)
+
+another-pair : (c : Met) → c .before .before .before .before .before .loop .i + 1 < length (script c)
+another-pair c = omega (arith, c .before .before .before .before .if1 .left)
+
+-- its byte was noted, and the driver did its work
+module _ (c : Met) {value : ℕ} (v : value ≡ outcome c .value) {sent : ℕ} {out : List ℕ}
+    (n : sent ≡ (if eqb (number c) 6 then sent-before c + 1 else sent-before c))
+    (o : (later : List ℕ) → laidAt sent later out ≡ laidAt (sent-before c) (if eqb (number c) 6 then value ∷ later else later) (out-before c))
+    (q : Progress) (s : q ≡ serve (table c) (number c) (given c)) where
+  -- the run goes on from there
+  goes-on : q .over ≡ false → {t : Progress} → t ≡ q →
+      Leads (run (table c) t (rest c)) (whole c) sent out (lent c)
+  unfolding reaching
+  goes-on lasts is =
+      let l = c .before .before .before .before .before .loop in
+      let event = c .before .event-effect .ensures in
+      passes (number c) value
+      (on (table c) (before-pair c) (script c) (l .i) (another-pair c) (outcome c) event (met c .0 .accepted) value v q s lasts is) n o (l .inv .6)
+
+  -- it is over
+  is-over : q .over ≡ true → Leads (closes q) (whole c) sent out (lent c)
+  unfolding reaching
+  is-over ends-now =
+      let l = c .before .before .before .before .before .loop in
+      let event = c .before .event-effect .ensures in
+      passes (number c) value
+      (over (table c) (before-pair c) (script c) (l .i) (another-pair c) (outcome c) event (met c .0 .accepted) value v q s ends-now) n o (l .inv .6)
 
 -- the run is over with q, and so many bytes sent
 over-with : {left whole : Run} {at : ℕ} {out lent : List ℕ} (r : Ended) (q : Progress) → left ≡ closes q → r ≡ endedOf q at →
@@ -103,49 +169,69 @@ over-with r q run-ends is leads =
       ),
     )
 
+-- what the driver did at the status is what the table says, by the definitions
+works : (c : Met) {q r : Progress} {status : ℕ} → q ≡ performs (table c status (r .count)) r → r ≡ after c → status ≡ statusOf (c .match .c .turn) →
+    q ≡ performs (table c (statusOf (outcome c .next .turn)) (given c .count)) (given c)
+works c {status = status} work reach is =
+    work ∙ ap (λ (t : Progress). performs (table c status (t .count)) t) (reach ∙ same c)
+    ∙ ap (λ (n : ℕ). performs (table c n (given c .count)) (given c)) (is ∙ ap (λ (d : Controller). statusOf (d .turn)) (met c .0 .next))
+
 loop-holds : tie.Need-loop-holds Inv-loop μ-loop
 loop-holds c =
     let s = c .before .before .before .before in
     let table = jobTable (s .args .job) (now (s .args .payload)) in
-    let script = now (s .args .script) in
-    let whole = begun (ap (λ (q : Progress). run table q script) (reached (s .args .start) 0 (s .pre .0))) in
-    (search needs, search needs, search needs, refl, s .pre .1, s .pre .2, whole)
+    let all = ap (λ (q : Progress). run table q (now (s .args .script))) (reached (s .args .start) 0 (s .pre .0)) in
+    (search needs, search needs, search needs, refl, s .pre .1, s .pre .2, begun all)
 
 add-i : tie.Need-add-i Inv-loop μ-loop
-add-i c = omega (arith, c .before .before .if1 .left, c .before .before .before .loop .inv, c .before .before .before .before .before .before .before .before .good)
+add-i c =
+    let s = c .before .before in
+    omega (arith, s .if1 .left, s .before .loop .inv, s .before .before .before .before .before .before .good)
 
 event-effect-requires : tie.Need-event-effect-requires Inv-loop μ-loop
 event-effect-requires c κs = c .before .before .before .loop .inv .5
 
 add-c : tie.Need-add-c Inv-loop μ-loop
-add-c c = omega (arith, parts (c .before .before .before .before .before .before .loop .c) (c .before .before .before .before .before .before .loop .inv .5) .moved)
+add-c c =
+    let l = c .before .before .before .before .before .before .loop in
+    omega (arith, parts (l .c) (l .inv .5) .moved)
 
 ended-requires : tie.Need-ended-requires Inv-loop μ-loop
-ended-requires c κs = parts (c .before .before .before .before .before .before .before .loop .c) (c .before .before .before .before .before .before .before .loop .inv .5) .moved
+ended-requires c κs =
+    let l = c .before .before .before .before .before .before .before .loop in
+    parts (l .c) (l .inv .5) .moved
 
 element-write-c : tie.Need-element-write-c Inv-loop μ-loop
 element-write-c c =
     let l = c .before .before .before .before .before .before .before .before .loop in
-    let place = stored-below (l .c) _ _ (l .inv .5) _ (sym (ap (afterEvent (l .c)) (c .before .before .effect4 .given .1)) ∙ c .before .before .before .before .event-effect .ensures) in
-    omega (arith, c .cursor .ensures, cursor-below (l .c) place)
+    let event = sym (ap (afterEvent (l .c)) (c .before .before .effect4 .given .1)) ∙ c .before .before .before .before .event-effect .ensures in
+    omega (arith, c .cursor .ensures, cursor-below (l .c) (stored-below (l .c) _ _ (l .inv .5) _ event))
 
 add-c-2 : tie.Need-add-c-2 Inv-loop μ-loop
-add-c-2 c = omega (arith, parts (c .before .before .before .before .before .before .before .before .loop .c) (c .before .before .before .before .before .before .before .before .loop .inv .5) .moved)
+add-c-2 c =
+    let l = c .before .before .before .before .before .before .before .before .loop in
+    omega (arith, parts (l .c) (l .inv .5) .moved)
 
 element-write-c-2 : tie.Need-element-write-c-2 Inv-loop μ-loop
 element-write-c-2 c =
     let l = c .before .before .before .before .before .before .before .before .loop in
-    let place = stored-last-below (l .c) _ _ (l .inv .5) _ _ _ (sym (ap (afterEvent (l .c)) (c .before .before .effect5 .given .1)) ∙ c .before .before .before .before .event-effect .ensures) in
-    omega (arith, c .cursor2 .ensures, cursor-below (l .c) place)
+    let event = sym (ap (afterEvent (l .c)) (c .before .before .effect5 .given .1)) ∙ c .before .before .before .before .event-effect .ensures in
+    omega (arith, c .cursor2 .ensures, cursor-below (l .c) (stored-last-below (l .c) _ _ (l .inv .5) _ _ _ event))
 
 ended-requires-2 : tie.Need-ended-requires-2 Inv-loop μ-loop
-ended-requires-2 c κs = parts (c .before .before .before .before .before .before .before .before .loop .c) (c .before .before .before .before .before .before .before .before .loop .inv .5) .moved
+ended-requires-2 c κs =
+    let l = c .before .before .before .before .before .before .before .before .loop in
+    parts (l .c) (l .inv .5) .moved
 
 note-requires : tie.Need-note-requires Inv-loop μ-loop
-note-requires c κs = omega (arith, c .before .before .before .before .before .before .before .if1 .left, c .before .before .before .before .before .before .before .before .loop .inv, c .before .before .before .before .before .before .before .before .before .before .before .before .before .good)
+note-requires c κs =
+    let s = c .before .before .before .before .before .before .before in
+    omega (arith, s .if1 .left, s .before .loop .inv, s .before .before .before .before .before .before .good)
 
 add-events : tie.Need-add-events Inv-loop μ-loop
-add-events c = omega (arith, c .before .before .before .before .before .before .before .before .before .before .if1 .left, c .before .before .before .before .before .before .before .before .before .before .before .loop .inv, c .before .before .before .before .before .before .before .before .before .before .before .before .before .before .before .before .good)
+add-events c =
+    let s = c .before .before .before .before .before .before .before .before .before .before in
+    omega (arith, s .if1 .left, s .before .loop .inv, s .before .before .before .before .before .before .good)
 
 loop-less : tie.Need-loop-less Inv-loop μ-loop
 loop-less c = omega (arith, c .before .before .before .before .before .before .before .before .before .before .before .before .before .if1 .left)
@@ -156,36 +242,33 @@ unfolding taking reaching
 loop-again c =
     let m = c .before .before .before .before .before .before .before .before .before in
     let l = m .before .before .before .before .before .loop in
-    let s = m .before .before .before .before .before .before .before .before .before .before in
-    let table = jobTable (s .args .job) (now (s .args .payload)) in
-    let script = now (s .args .script) in
-    let p = reaching (l .p) (l .c) (l .events) in
-    let number = getD script (l .i) 0 in
-    let o = afterEvent (l .c) (m .before .event-effect .result) in
-    let more : l .i + 1 < length script = omega (arith, m .before .before .before .before .if1 .left) in
     let note = c .before .before .before .before .before .note .ensures in
-    let value =
-    c .before .before .before .before .before .before .value .ensures ∙ c .before .before .before .before .before .before .before .before .answer .ensures .1 (l .c)
-    ∙ ap (λ (e : EventEffect). (afterEvent (l .c) e) .value) (met m .1) in
-    let sound-next = ap sound (sym (met m .0 .next)) ∙ next-sound m in
-    let idle = ap (λ (d : Controller). eqb (statusOf (d .turn)) 0xF8) (sym (met m .0 .next)) ∙ ap (λ (n : ℕ). eqb n 0xF8) (sym (c .before .status .ensures) ∙ c .if2 .taken) in
-    let served = same m ∙ sym (at-idle table number (given m) (ne-eqb number 14 (c .before .before .match2 .rest .0 .1)) (ne-eqb number 4 (c .before .before .match2 .rest .1)) sound-next idle) in
-    let pair = on table p script (l .i) more o (m .before .event-effect .ensures) (met m .0 .accepted) _ value (after m) served (l .inv .4) refl in (
-      omega (arith, more),
+    let answer = c .before .before .before .before .before .before .before .before .answer .ensures .1 (l .c) in
+    let value = c .before .before .before .before .before .before .value .ensures ∙ answer ∙ effect-value m in
+    let other = c .before .before .match2 .rest in
+    let not-reset = ne-eqb (number m) 14 (other .0 .1) in
+    let not-stop = ne-eqb (number m) 4 (other .1) in
+    let idle = sym (given-status m) ∙ ap (λ (n : ℕ). eqb n 0xF8) (sym (c .before .status .ensures) ∙ c .if2 .taken) in
+    let served = same m ∙ sym (at-idle (table m) (number m) (given m) not-reset not-stop (given-sound m) idle) in (
+      omega (arith, another-pair m),
       omega (arith, l .inv .1),
-      at-most-one (eqb number 6) _ _ _ (note .0) (l .inv .2),
+      at-most-one (eqb (number m) 6) _ _ _ (note .0) (l .inv .2),
       note .1 .0 ∙ l .inv .3,
       l .inv .4,
       next-sound m,
-      passes number _ pair (note .0) (note .1 .1) (l .inv .6),
+      goes-on m value (note .0) (note .1 .1) (after m) served (l .inv .4) refl,
     )
 
 work-at-requires : tie.Need-work-at-requires Inv-loop μ-loop
 unfolding reaching
-work-at-requires c κs = ap (λ (t : Progress). sound (t .controller)) (c .reach .ensures) ∙ next-sound (c .before .before .before .before .before .before .before .before .before .before)
+work-at-requires c κs =
+    let m = c .before .before .before .before .before .before .before .before .before .before in
+    ap (λ (t : Progress). sound (t .controller)) (c .reach .ensures) ∙ next-sound m
 
 loop-less-2 : tie.Need-loop-less-2 Inv-loop μ-loop
-loop-less-2 c = omega (arith, c .before .before .before .before .before .before .before .before .before .before .before .before .before .before .before .before .before .if1 .left)
+loop-less-2 c =
+    let m = c .before .before .before .before .before .before .before .before .before .before .before .before .before in
+    omega (arith, m .before .before .before .before .if1 .left)
 
 -- a pair that was served
 loop-again-2 : tie.Need-loop-again-2 Inv-loop μ-loop
@@ -193,42 +276,27 @@ unfolding taking reaching
 loop-again-2 c =
     let m = c .before .before .before .before .before .before .before .before .before .before .before .before .before in
     let l = m .before .before .before .before .before .loop in
-    let s = m .before .before .before .before .before .before .before .before .before .before in
-    let table = jobTable (s .args .job) (now (s .args .payload)) in
-    let script = now (s .args .script) in
-    let p = reaching (l .p) (l .c) (l .events) in
-    let number = getD script (l .i) 0 in
-    let o = afterEvent (l .c) (m .before .event-effect .result) in
-    let more : l .i + 1 < length script = omega (arith, m .before .before .before .before .if1 .left) in
     let note = c .before .before .before .before .before .before .before .before .before .note .ensures in
-    let value =
-    c .before .before .before .before .before .before .before .before .before .before .value .ensures ∙ c .before .before .before .before .before .before .before .before .before .before .before .before .answer .ensures .1 (l .c)
-    ∙ ap (λ (e : EventEffect). (afterEvent (l .c) e) .value) (met m .1) in
-    let sound-next = ap sound (sym (met m .0 .next)) ∙ next-sound m in
-    let reach = c .before .before .before .reach .ensures in
+    let answer = c .before .before .before .before .before .before .before .before .before .before .before .before .answer .ensures .1 (l .c) in
+    let value = c .before .before .before .before .before .before .before .before .before .before .value .ensures ∙ answer ∙ effect-value m in
+    let other = c .before .before .before .before .before .before .match2 .rest in
+    let not-reset = ne-eqb (number m) 14 (other .0 .1) in
+    let not-stop = ne-eqb (number m) 4 (other .1) in
     let status = c .before .before .before .before .before .status in
-    let busy =
-    ap (λ (d : Controller). eqb (statusOf (d .turn)) 0xF8) (sym (met m .0 .next))
-    ∙ ap (λ (n : ℕ). eqb n 0xF8) (sym (status .ensures)) ∙ ne-eqb (status .result) 0xF8 (c .before .before .before .before .if2 .left) in
+    let other-status = ne-eqb (status .result) 0xF8 (c .before .before .before .before .if2 .left) in
+    let busy = sym (given-status m) ∙ ap (λ (n : ℕ). eqb n 0xF8) (sym (status .ensures)) ∙ other-status in
     let q = c .before .before .work-at .result in
-    let served =
-    c .before .before .work-at .ensures
-    ∙ ap (λ (t : Progress). performs (table (status .result) (t .count)) t) (reach ∙ same m)
-    ∙ ap (λ (n : ℕ). performs (table n ((given m) .count)) (given m))
-    (status .ensures ∙ ap (λ (d : Controller). statusOf (d .turn)) (met m .0 .next))
-    ∙ sym (at-status table number (given m) (ne-eqb number 14 (c .before .before .before .before .before .before .match2 .rest .0 .1)) (ne-eqb number 4 (c .before .before .before .before .before .before .match2 .rest .1)) sound-next busy) in
-    let events = ap (λ (t : Progress). t .events) served ∙ serve-events table number (given m) in
-    let held = ap (λ (t : Progress). sound (t .controller)) (c .before .before .work-at .ensures) ∙ performs-sound _ _ (ap (λ (t : Progress). sound (t .controller)) reach ∙ next-sound m) in
-    let lasts = c .if3 .left in
-    let next = reached q (l .events + 1) events in
-    let pair = on table p script (l .i) more o (m .before .event-effect .ensures) (met m .0 .accepted) _ value q served lasts next in (
-      omega (arith, more),
+    let served = works m (c .before .before .work-at .ensures) (c .before .before .before .reach .ensures) (status .ensures)
+    ∙ sym (at-status (table m) (number m) (given m) not-reset not-stop (given-sound m) busy) in
+    let events = ap (λ (t : Progress). t .events) served ∙ serve-events (table m) (number m) (given m) in
+    let start = ap (λ (t : Progress). sound (t .controller)) (c .before .before .before .reach .ensures) ∙ next-sound m in (
+      omega (arith, another-pair m),
       omega (arith, l .inv .1),
-      at-most-one (eqb number 6) _ _ _ (note .0) (l .inv .2),
+      at-most-one (eqb (number m) 6) _ _ _ (note .0) (l .inv .2),
       note .1 .0 ∙ l .inv .3,
-      lasts,
-      held,
-      passes number _ pair (note .0) (note .1 .1) (l .inv .6),
+      c .if3 .left,
+      ap (λ (t : Progress). sound (t .controller)) (c .before .before .work-at .ensures) ∙ performs-sound _ _ start,
+      goes-on m value (note .0) (note .1 .1) q served (c .if3 .left) (reached q (l .events + 1) events),
     )
 
 -- the script's end
@@ -237,10 +305,9 @@ unfolding reaching
 returns c =
     let l = c .before .before .loop in
     let s = c .before .before .before .before .before .before .before in
-    let table = jobTable (s .args .job) (now (s .args .payload)) in
     let p = reaching (l .p) (l .c) (l .events) in
     over-with (c .end-at .result) (follows (ends Unfinished) p)
-    (runs-out table p (now (s .args .script)) (l .i) (c .before .if1 .taken)) (c .end-at .ensures) (l .inv .6)
+    (runs-out (jobTable (s .args .job) (now (s .args .payload))) p (now (s .args .script)) (l .i) (c .before .if1 .taken)) (c .end-at .ensures) (l .inv .6)
 
 same-length-2 : tie.Need-same-length-2 Inv-loop μ-loop
 same-length-2 c = c .before .before .before .before .before .before .before .before .loop .inv .3
@@ -251,18 +318,20 @@ unfolding reaching afterEvent refuses
 returns-2 c =
     let l = c .before .before .before .before .before .before .before .before .loop in
     let s = c .before .before .before .before .before .before .before .before .before .before .before .before .before in
-    let table = jobTable (s .args .job) (now (s .args .payload)) in
-    let script = now (s .args .script) in
     let p = reaching (l .p) (l .c) (l .events) in
+    let table = jobTable (s .args .job) (now (s .args .payload)) in
     let event = c .before .before .before .before .event-effect in
     let why = c .before .before .effect .given in
-    let more : l .i + 1 < length script = omega (arith, c .before .before .before .before .before .before .before .if1 .left) in
+    let more : l .i + 1 < length (now (s .args .script)) = omega (arith, c .before .before .before .before .before .before .before .if1 .left) in
     let number = ap (λ (e : EventEffect). (afterEvent (l .c) e) .refused) (why .1) in
-    let refusal = refused table p script (l .i) more (afterEvent (l .c) (event .result)) (event .ensures) _ number in
-    over-with (c .end-at2 .result) (follows (ends (Refused (why .0 .0))) p) refusal (c .end-at2 .ensures) (l .inv .6)
+    over-with (c .end-at2 .result) (follows (ends (Refused (why .0 .0))) p)
+    (refused table p (now (s .args .script)) (l .i) more (afterEvent (l .c) (event .result)) (event .ensures) _ number)
+    (c .end-at2 .ensures) (l .inv .6)
 
 same-length-3 : tie.Need-same-length-3 Inv-loop μ-loop
-same-length-3 c = c .before .before .before .before .note .ensures .1 .0 ∙ c .before .before .before .before .before .before .before .before .before .before .before .before .before .loop .inv .3
+same-length-3 c =
+    let m = c .before .before .before .before .before .before .before .before in
+    c .before .before .before .before .note .ensures .1 .0 ∙ m .before .before .before .before .before .loop .inv .3
 
 -- event 14
 returns-3 : tie.Need-returns-3 Inv-loop μ-loop
@@ -270,24 +339,17 @@ unfolding taking reaching follows
 returns-3 c =
     let m = c .before .before .before .before .before .before .before .before in
     let l = m .before .before .before .before .before .loop in
-    let s = m .before .before .before .before .before .before .before .before .before .before in
-    let table = jobTable (s .args .job) (now (s .args .payload)) in
-    let script = now (s .args .script) in
-    let p = reaching (l .p) (l .c) (l .events) in
-    let number = getD script (l .i) 0 in
-    let o = afterEvent (l .c) (m .before .event-effect .result) in
-    let more : l .i + 1 < length script = omega (arith, m .before .before .before .before .if1 .left) in
     let note = c .before .before .before .before .note .ensures in
-    let value =
-    c .before .before .before .before .before .value .ensures ∙ c .before .before .before .before .before .before .before .answer .ensures .1 (l .c)
-    ∙ ap (λ (e : EventEffect). (afterEvent (l .c) e) .value) (met m .1) in
+    let answer = c .before .before .before .before .before .before .before .answer .ensures .1 (l .c) in
+    let value = c .before .before .before .before .before .value .ensures ∙ answer ∙ effect-value m in
     let q = follows (ends Reset) (after m) in
-    let served = ap (follows (ends Reset)) (same m) ∙ sym (at-reset table number (given m) (c .before .match2 .keys1)) in
-    let pair = over table p script (l .i) more o (m .before .event-effect .ensures) (met m .0 .accepted) _ value q served refl in
-    over-with (c .end-at3 .result) q refl (c .end-at3 .ensures) (passes number _ pair (note .0) (note .1 .1) (l .inv .6))
+    let served = ap (follows (ends Reset)) (same m) ∙ sym (at-reset (table m) (number m) (given m) (c .before .match2 .keys1)) in
+    over-with (c .end-at3 .result) q refl (c .end-at3 .ensures) (is-over m value (note .0) (note .1 .1) q served refl)
 
 same-length-4 : tie.Need-same-length-4 Inv-loop μ-loop
-same-length-4 c = c .before .before .before .before .note .ensures .1 .0 ∙ c .before .before .before .before .before .before .before .before .before .before .before .before .before .loop .inv .3
+same-length-4 c =
+    let m = c .before .before .before .before .before .before .before .before in
+    c .before .before .before .before .note .ensures .1 .0 ∙ m .before .before .before .before .before .loop .inv .3
 
 -- own STOP
 returns-4 : tie.Need-returns-4 Inv-loop μ-loop
@@ -295,24 +357,18 @@ unfolding taking reaching follows
 returns-4 c =
     let m = c .before .before .before .before .before .before .before .before in
     let l = m .before .before .before .before .before .loop in
-    let s = m .before .before .before .before .before .before .before .before .before .before in
-    let table = jobTable (s .args .job) (now (s .args .payload)) in
-    let script = now (s .args .script) in
-    let p = reaching (l .p) (l .c) (l .events) in
-    let number = getD script (l .i) 0 in
-    let o = afterEvent (l .c) (m .before .event-effect .result) in
-    let more : l .i + 1 < length script = omega (arith, m .before .before .before .before .if1 .left) in
     let note = c .before .before .before .before .note .ensures in
-    let value =
-    c .before .before .before .before .before .value .ensures ∙ c .before .before .before .before .before .before .before .answer .ensures .1 (l .c)
-    ∙ ap (λ (e : EventEffect). (afterEvent (l .c) e) .value) (met m .1) in
+    let answer = c .before .before .before .before .before .before .before .answer .ensures .1 (l .c) in
+    let value = c .before .before .before .before .before .value .ensures ∙ answer ∙ effect-value m in
     let q = follows finishes (after m) in
-    let served = ap (follows finishes) (same m) ∙ sym (at-stop table number (given m) (c .before .match2 .keys2)) in
-    let pair = over table p script (l .i) more o (m .before .event-effect .ensures) (met m .0 .accepted) _ value q served refl in
-    over-with (c .end-noted .result) q refl (c .end-noted .ensures) (passes number _ pair (note .0) (note .1 .1) (l .inv .6))
+    let served = ap (follows finishes) (same m) ∙ sym (at-stop (table m) (number m) (given m) (c .before .match2 .keys2)) in
+    over-with (c .end-noted .result) q refl (c .end-noted .ensures) (is-over m value (note .0) (note .1 .1) q served refl)
 
 same-length-5 : tie.Need-same-length-5 Inv-loop μ-loop
-same-length-5 c = c .before .before .before .before .before .before .before .before .before .before .note .ensures .1 .0 ∙ c .before .before .before .before .before .before .before .before .before .before .before .before .before .before .before .before .before .before .before .loop .inv .3
+same-length-5 c =
+    let m = c .before .before .before .before .before .before .before .before .before .before .before .before .before .before in
+    let note = c .before .before .before .before .before .before .before .before .before .before .note .ensures in
+    note .1 .0 ∙ m .before .before .before .before .before .loop .inv .3
 
 -- a pair whose work ended the job
 returns-5 : tie.Need-returns-5 Inv-loop μ-loop
@@ -320,32 +376,19 @@ unfolding taking reaching
 returns-5 c =
     let m = c .before .before .before .before .before .before .before .before .before .before .before .before .before .before in
     let l = m .before .before .before .before .before .loop in
-    let s = m .before .before .before .before .before .before .before .before .before .before in
-    let table = jobTable (s .args .job) (now (s .args .payload)) in
-    let script = now (s .args .script) in
-    let p = reaching (l .p) (l .c) (l .events) in
-    let number = getD script (l .i) 0 in
-    let o = afterEvent (l .c) (m .before .event-effect .result) in
-    let more : l .i + 1 < length script = omega (arith, m .before .before .before .before .if1 .left) in
     let note = c .before .before .before .before .before .before .before .before .before .before .note .ensures in
-    let value =
-    c .before .before .before .before .before .before .before .before .before .before .before .value .ensures ∙ c .before .before .before .before .before .before .before .before .before .before .before .before .before .answer .ensures .1 (l .c)
-    ∙ ap (λ (e : EventEffect). (afterEvent (l .c) e) .value) (met m .1) in
-    let sound-next = ap sound (sym (met m .0 .next)) ∙ next-sound m in
-    let reach = c .before .before .before .before .reach .ensures in
+    let answer = c .before .before .before .before .before .before .before .before .before .before .before .before .before .answer .ensures .1 (l .c) in
+    let value = c .before .before .before .before .before .before .before .before .before .before .before .value .ensures ∙ answer ∙ effect-value m in
+    let other = c .before .before .before .before .before .before .before .match2 .rest in
+    let not-reset = ne-eqb (number m) 14 (other .0 .1) in
+    let not-stop = ne-eqb (number m) 4 (other .1) in
     let status = c .before .before .before .before .before .before .status in
-    let busy =
-    ap (λ (d : Controller). eqb (statusOf (d .turn)) 0xF8) (sym (met m .0 .next))
-    ∙ ap (λ (n : ℕ). eqb n 0xF8) (sym (status .ensures)) ∙ ne-eqb (status .result) 0xF8 (c .before .before .before .before .before .if2 .left) in
+    let other-status = ne-eqb (status .result) 0xF8 (c .before .before .before .before .before .if2 .left) in
+    let busy = sym (given-status m) ∙ ap (λ (n : ℕ). eqb n 0xF8) (sym (status .ensures)) ∙ other-status in
     let q = c .before .before .before .work-at .result in
-    let served =
-    c .before .before .before .work-at .ensures
-    ∙ ap (λ (t : Progress). performs (table (status .result) (t .count)) t) (reach ∙ same m)
-    ∙ ap (λ (n : ℕ). performs (table n ((given m) .count)) (given m))
-    (status .ensures ∙ ap (λ (d : Controller). statusOf (d .turn)) (met m .0 .next))
-    ∙ sym (at-status table number (given m) (ne-eqb number 14 (c .before .before .before .before .before .before .before .match2 .rest .0 .1)) (ne-eqb number 4 (c .before .before .before .before .before .before .before .match2 .rest .1)) sound-next busy) in
-    let pair = over table p script (l .i) more o (m .before .event-effect .ensures) (met m .0 .accepted) _ value q served (c .before .if3 .taken) in
-    over-with (c .end-with .result) q refl (c .end-with .ensures) (passes number _ pair (note .0) (note .1 .1) (l .inv .6))
+    let served = works m (c .before .before .before .work-at .ensures) (c .before .before .before .before .reach .ensures) (status .ensures)
+    ∙ sym (at-status (table m) (number m) (given m) not-reset not-stop (given-sound m) busy) in
+    over-with (c .end-with .result) q refl (c .end-with .ensures) (is-over m value (note .0) (note .1 .1) q served (c .before .if3 .taken))
 
 pub run-pairs-spec : {M : Type 1} → statement M
 run-pairs-spec =

@@ -57,7 +57,10 @@ stop-requires-3 : tie.Need-stop-requires-3
 stop-requires-3 c κs = subst KeepsSound (sym (c .find-moved .ensures)) (acts-sound _ _ (c .before .before .before .before .pre))
 
 stop-requires-4 : tie.Need-stop-requires-4
-stop-requires-4 c κs = subst KeepsSound (sym (c .read-all .ensures ∙ ap (does readsAll) (c .before .note-count3 .ensures))) (does-sound readsAll _ (does-sound _ _ (c .before .before .before .before .before .pre)))
+stop-requires-4 c κs =
+    let start = c .before .before .before .before .before in
+    subst KeepsSound (sym (c .read-all .ensures ∙ ap (does readsAll) (c .before .note-count3 .ensures)))
+    (does-sound readsAll _ (does-sound _ _ (start .pre)))
 
 put-control-requires-2 : tie.Need-put-control-requires-2
 put-control-requires-2 c κs = c .before .before .before .pre

@@ -17,10 +17,14 @@ ended-requires : tie.Need-ended-requires
 ended-requires c κs = parts (c .before .before .before .args .self) (c .before .before .before .pre) .moved
 
 add-stored : tie.Need-add-stored
-add-stored c = omega (arith, ap (λ (d : Controller). d .moved) (c .before .with-place .ensures), parts (c .before .before .before .before .before .before .args .self) (c .before .before .before .before .before .before .pre) .moved)
+add-stored c =
+    let start = c .before .before .before .before .before .before in
+    omega (arith, ap (λ (d : Controller). d .moved) (c .before .with-place .ensures), parts (start .args .self) (start .pre) .moved)
 
 ended-requires-2 : tie.Need-ended-requires-2
-ended-requires-2 c κs = omega (arith, ap (λ (d : Controller). d .moved) (c .with-place2 .ensures), parts (c .before .before .before .before .before .args .self) (c .before .before .before .before .before .pre) .moved)
+ended-requires-2 c κs =
+    let start = c .before .before .before .before .before in
+    omega (arith, ap (λ (d : Controller). d .moved) (c .with-place2 .ensures), parts (start .args .self) (start .pre) .moved)
 
 returns : tie.Need-returns
 unfolding afterEvent
@@ -60,11 +64,22 @@ returns-9 c = c .accepted8 .ensures ∙ rw (c .before .ended .ensures, c .before
 
 returns-10 : tie.Need-returns-10
 unfolding afterEvent received
-returns-10 c = c .accepted9 .ensures ∙ rw (c .before .before .with-place .ensures, c .before .before .before .cursor .ensures, c .before .before .before .before .before .effect5 .given .1)
+returns-10 c =
+    c .accepted9 .ensures ∙ rw (
+      c .before .before .with-place .ensures,
+      c .before .before .before .cursor .ensures,
+      c .before .before .before .before .before .effect5 .given .1,
+    )
 
 returns-11 : tie.Need-returns-11
 unfolding afterEvent interruptsAt received
-returns-11 c = c .accepted10 .ensures ∙ rw (c .before .ended2 .ensures, c .before .before .with-place2 .ensures, c .before .before .before .cursor2 .ensures, c .before .before .before .before .before .effect6 .given .1)
+returns-11 c =
+    c .accepted10 .ensures ∙ rw (
+      c .before .ended2 .ensures,
+      c .before .before .with-place2 .ensures,
+      c .before .before .before .cursor2 .ensures,
+      c .before .before .before .before .before .effect6 .given .1,
+    )
 
 returns-12 : tie.Need-returns-12
 unfolding afterEvent

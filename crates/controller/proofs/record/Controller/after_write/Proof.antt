@@ -10,7 +10,9 @@ use Rattle.controller.proofs.record.Controller.after_write.Statement.{s
 use Rattle.controller.proofs.record.Controller.after_write.Tie as tie
 
 advanced-requires : tie.Need-advanced-requires
-advanced-requires c κs = omega (arith, ap (λ (d : Controller). d .hand) (c .with-place .ensures), parts (c .before .before .before .before .args .self) (c .before .before .before .before .pre) .hand)
+advanced-requires c κs =
+    let start = c .before .before .before .before in
+    omega (arith, ap (λ (d : Controller). d .hand) (c .with-place .ensures), parts (start .args .self) (start .pre) .hand)
 
 returns : tie.Need-returns
 unfolding afterWrite
@@ -22,7 +24,8 @@ returns-2 c = c .accepted .ensures ∙ rw (c .before .pointed .ensures, c .befor
 
 returns-3 : tie.Need-returns-3
 unfolding afterWrite wrote
-returns-3 c = c .accepted2 .ensures ∙ rw (c .before .advanced .ensures, c .before .before .with-place .ensures, c .before .before .before .before .effect3 .given .1)
+returns-3 c =
+    c .accepted2 .ensures ∙ rw (c .before .advanced .ensures, c .before .before .with-place .ensures, c .before .before .before .before .effect3 .given .1)
 
 returns-4 : tie.Need-returns-4
 unfolding afterWrite wrote

@@ -12,13 +12,22 @@ returns c = search (sym (c .before .before .is-no-event .ensures) ∙ c .before 
 
 returns-2 : tie.Need-returns-2
 unfolding eventOf
-returns-2 c = search (sym (c .before .before .is-bad-argument .ensures) ∙ c .before .if2 .taken, sym (c .before .before .before .before .is-no-event .ensures) ∙ c .before .before .before .if1 .left, cases)
+returns-2 c =
+    search (
+      sym (c .before .before .is-bad-argument .ensures) ∙ c .before .if2 .taken,
+      sym (c .before .before .before .before .is-no-event .ensures) ∙ c .before .before .before .if1 .left,
+      cases,
+    )
 
 returns-3 : tie.Need-returns-3
 unfolding eventOf
 returns-3 c =
     c .accepted .ensures ∙ rw (c .before .reset .ensures)
-    (search (sym (c .before .before .before .before .is-bad-argument .ensures) ∙ c .before .before .before .if2 .left, sym (c .before .before .before .before .before .before .is-no-event .ensures) ∙ c .before .before .before .before .before .if1 .left, cases))
+    (search (
+      sym (c .before .before .before .before .is-bad-argument .ensures) ∙ c .before .before .before .if2 .left,
+      sym (c .before .before .before .before .before .before .is-no-event .ensures) ∙ c .before .before .before .before .before .if1 .left,
+      cases,
+    ))
 
 event-sound-requires : tie.Need-event-sound-requires
 event-sound-requires c κs = sym (c .before .is-sound .ensures) ∙ c .if4 .taken
@@ -29,10 +38,12 @@ after-event-requires c κs = sym (c .before .before .is-sound .ensures) ∙ c .b
 returns-4 : tie.Need-returns-4
 unfolding eventOf
 returns-4 c =
-    c .after-event .ensures ∙ c .before .event-sound .ensures ∙ search (
+    let checked = c .before .before .before .before in
+    c .after-event .ensures ∙ c .before .event-sound .ensures
+    ∙ search (
       sym (c .before .before .before .is-sound .ensures) ∙ c .before .before .if4 .taken,
-      sym (c .before .before .before .before .before .before .is-bad-argument .ensures) ∙ c .before .before .before .before .before .if2 .left,
-      sym (c .before .before .before .before .before .before .before .before .is-no-event .ensures) ∙ c .before .before .before .before .before .before .before .if1 .left,
+      sym (checked .before .before .is-bad-argument .ensures) ∙ checked .before .if2 .left,
+      sym (checked .before .before .before .before .is-no-event .ensures) ∙ checked .before .before .before .if1 .left,
       cases,
     )
 

@@ -13,15 +13,32 @@ returns c = search (sym (c .before .is-no-event .ensures) ∙ c .if1 .taken, cas
 
 returns-2 : tie.Need-returns-2
 unfolding eventOf afterEvent
-returns-2 c = search (sym (c .before .is-bad-argument .ensures) ∙ c .if2 .taken, sym (c .before .before .before .is-no-event .ensures) ∙ c .before .before .if1 .left, cases)
+returns-2 c =
+    search (
+      sym (c .before .is-bad-argument .ensures) ∙ c .if2 .taken,
+      sym (c .before .before .before .is-no-event .ensures) ∙ c .before .before .if1 .left,
+      cases,
+    )
 
 returns-3 : tie.Need-returns-3
 unfolding eventOf afterEvent
-returns-3 c = search (sym (c .before .before .is-bad-argument .ensures) ∙ c .before .if2 .left, sym (c .before .before .before .before .is-no-event .ensures) ∙ c .before .before .before .if1 .left, cases)
+returns-3 c =
+    search (
+      sym (c .before .before .is-bad-argument .ensures) ∙ c .before .if2 .left,
+      sym (c .before .before .before .before .is-no-event .ensures) ∙ c .before .before .before .if1 .left,
+      cases,
+    )
 
 returns-4 : tie.Need-returns-4
 unfolding eventOf
-returns-4 c = c .event-sound .ensures ∙ search (c .before .before .before .before .before .before .pre, sym (c .before .before .before .is-bad-argument .ensures) ∙ c .before .before .if2 .left, sym (c .before .before .before .before .before .is-no-event .ensures) ∙ c .before .before .before .before .if1 .left, cases)
+returns-4 c =
+    c .event-sound .ensures
+    ∙ search (
+      c .before .before .before .before .before .before .pre,
+      sym (c .before .before .before .is-bad-argument .ensures) ∙ c .before .before .if2 .left,
+      sym (c .before .before .before .before .before .is-no-event .ensures) ∙ c .before .before .before .before .if1 .left,
+      cases,
+    )
 
 pub event-effect-spec : {M : Type 1} → statement M
 event-effect-spec =

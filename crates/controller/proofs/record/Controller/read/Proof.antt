@@ -18,7 +18,9 @@ after-read-requires c κs = sym (c .before .before .is-sound .ensures) ∙ c .be
 
 returns-2 : tie.Need-returns-2
 unfolding readOf
-returns-2 c = c .after-read .ensures ∙ c .before .read-sound .ensures ∙ search (sym (c .before .before .before .is-sound .ensures) ∙ c .before .before .if2 .taken, cases)
+returns-2 c =
+    c .after-read .ensures ∙ c .before .read-sound .ensures
+    ∙ search (sym (c .before .before .before .is-sound .ensures) ∙ c .before .before .if2 .taken, cases)
 
 returns-3 : tie.Need-returns-3
 unfolding readOf

@@ -14,7 +14,8 @@ returns-2 : tie.Need-returns-2
 returns-2 c =
     let here = c .before in
     let places = sym (length-map (here .args .t1 .buffer) _) ∙ here .good .0 .1 .1 .0 .1 .0 .1 in
-    sym (ap (λ (x : List ℕ). withBuffer (here .args .t1) x) (set-out (here .args .t1 .buffer) (here .args .place) (here .args .byte) (omega (arith, places, c .if1 .left))))
+    let outside = set-out (here .args .t1 .buffer) (here .args .place) (here .args .byte) (omega (arith, places, c .if1 .left)) in
+    sym (ap (withBuffer (here .args .t1)) outside)
 
 pub with-place-spec : {M : Type 1} → statement M
 with-place-spec = tie.close (tie.spec (λ c. search needs) (λ c. search needs) returns-2)

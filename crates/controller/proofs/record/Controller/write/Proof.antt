@@ -18,7 +18,9 @@ after-write-requires c κs = sym (c .before .before .is-sound .ensures) ∙ c .b
 
 returns-2 : tie.Need-returns-2
 unfolding writeOf
-returns-2 c = c .after-write .ensures ∙ c .before .write-sound .ensures ∙ search (sym (c .before .before .before .is-sound .ensures) ∙ c .before .before .if2 .taken, cases)
+returns-2 c =
+    c .after-write .ensures ∙ c .before .write-sound .ensures
+    ∙ search (sym (c .before .before .before .is-sound .ensures) ∙ c .before .before .if2 .taken, cases)
 
 returns-3 : tie.Need-returns-3
 unfolding writeOf

@@ -24,7 +24,13 @@ returns : tie.Need-returns
 unfolding doesAll does
 returns c =
     let s = c .before .before .before in
-    rw (c .with-record2 .ensures, c .before .put-pointer2 .ensures, s .count-read .ensures, s .before .with-record .ensures, s .before .before .put-pointer .ensures)
+    rw (
+      c .with-record2 .ensures,
+      c .before .put-pointer2 .ensures,
+      s .count-read .ensures,
+      s .before .with-record .ensures,
+      s .before .before .put-pointer .ensures,
+    )
 
 pub find-moved-spec : {M : Type 1} → statement M
 find-moved-spec =
