@@ -1,6 +1,5 @@
--- What the answer of a rule makes of the record. Plumbing: in the code a rule answers what changes, and promises that this is the outcome
--- document 01 gives.
-use mathlib.Core.Bool.{false}
+-- What the effect that a rule gives makes of the record. Plumbing: in the code a rule gives what changes, and promises that this is the
+-- outcome document 01 gives.
 use Prim.Native.Nat.{_+_}
 use Rattle.answer.specs.Refusal.{refusalNumber}
 use Rattle.control.specs.declared.turn.Turn.the-variants.{Free, Busy, Listen}
@@ -23,7 +22,7 @@ use Rattle.controller.specs.declared.record.Controller.{Controller}
 
 unfoldable pub afterRead : Controller → ReadEffect → Outcome
 afterRead c (read.Refused why) = refuses c (refusalNumber why)
-afterRead c (read.Kept value) = accepts c value
+afterRead c (read.Unchanged value) = accepts c value
 afterRead c (read.Advanced value) = accepts (withHand c (c .hand + 1)) value
 
 -- flags and turn stored, hand place and moved count back at 0
@@ -43,20 +42,20 @@ afterWrite c (write.Armed armed) = accepts (withArmed c armed) 0
 afterWrite c (write.Set s) = wrote (setTo c s)
 afterWrite c write.Reset = accepts (reset c) 0
 
--- own STOP
-abbrev pub stopped : Controller → Controller
-stopped c = withControl c (withoutStop (c .control))
+-- STO 0
+abbrev pub stoCleared : Controller → Controller
+stoCleared c = withControl c (withoutStop (c .control))
 
 unfoldable pub afterEvent : Controller → EventEffect → Outcome
 afterEvent c (event.Refused why) = refuses c (refusalNumber why)
-afterEvent c event.Kept = accepts c 0
+afterEvent c event.Unchanged = accepts c 0
 afterEvent c event.Listen = waitsFor c Listen 0
 afterEvent c event.Busy = waitsFor c Busy 1
 afterEvent c event.Free = waitsFor c Free 0
-afterEvent c event.Stopped = waitsFor (stopped c) Free 0
+afterEvent c event.Stopped = waitsFor (stoCleared c) Free 0
 afterEvent c (event.Interrupts status edge value) = interruptsAt c status edge value
 afterEvent c (event.Sent byte) = accepts (counted c) byte
 afterEvent c (event.SentLast status byte) = gives (counted c) status byte
-afterEvent c (event.Stored byte) = accepts (received c byte) 0
-afterEvent c (event.StoredLast status byte value) = gives (received c byte) status value
+afterEvent c (event.Received byte) = accepts (received c byte) 0
+afterEvent c (event.ReceivedLast status byte value) = gives (received c byte) status value
 afterEvent c event.Reset = accepts (reset c) 0

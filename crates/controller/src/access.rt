@@ -62,12 +62,12 @@ impl Controller {
         }
         let turn = self.turn;
         match register {
-            0 => ReadEffect::Kept(turn.status()),
+            0 => ReadEffect::Unchanged(turn.status()),
             1 => self.read_data(),
-            2 => ReadEffect::Kept(self.at_pointer()),
+            2 => ReadEffect::Unchanged(self.at_pointer()),
             _ => {
                 let flags = self.control;
-                ReadEffect::Kept(flags.byte(turn.interrupts()))
+                ReadEffect::Unchanged(flags.byte(turn.interrupts()))
             }
         }
     }

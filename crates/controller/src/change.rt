@@ -1,4 +1,4 @@
-// The record with what an effect changes. (None touches the buffer: a byte is stored where the record is held.)
+// The record with what an effect changes. (None touches the buffer: a byte is stored by the loops themselves, or by `with_place`.)
 use crate::effect::Setting;
 use crate::record::Controller;
 use control::turn::Edge;
@@ -8,7 +8,7 @@ ghost use mathlib.Core.Path.{_≡_};
 ghost use Prim.Native.Nat.{_+_, _≤_};
 ghost use Rattle.control.specs.declared.turn.Edge.the-variants.{Stop};
 ghost use Rattle.control.specs.declared.turn.Turn.the-variants.{Host, Free};
-ghost use Rattle.controller.specs.Effect.{setTo, stopped as stops};
+ghost use Rattle.controller.specs.Effect.{setTo, stoCleared};
 ghost use Rattle.controller.specs.Registers.{stored};
 ghost use Rattle.controller.specs.Setters.{withHand, withPointer, withArmed, withRegisters, withTurn};
 ghost use Rattle.controller.specs.Transfer.{counted};
@@ -35,7 +35,7 @@ impl Controller {
 
     // Own STOP.
     pub fn stopped(mut self) -> Controller
-        ensures { λ r. ⌜ r ≡ withTurn (stops self) Free ⌝ }
+        ensures { λ r. ⌜ r ≡ withTurn (stoCleared self) Free ⌝ }
     {
         self.control.sto = false;
         self.turned(Turn::Free)
@@ -59,7 +59,7 @@ impl Controller {
     }
 
     // I2CDAT was written: the hand place goes on.
-    pub fn advanced(mut self) -> Controller
+    pub fn loaded(mut self) -> Controller
         requires { ⌜ self .hand ≤ 68 ⌝ }
         ensures { λ r. ⌜ r ≡ withArmed (withHand self (self .hand + 1)) false ⌝ }
     {

@@ -150,7 +150,7 @@ impl Controller {
         let turn = self.turn;
         match turn {
             Turn::Off | Turn::Host(_, _) => self.refuse(Refusal::Unexpected),
-            Turn::Free | Turn::Busy | Turn::Listen => EventEffect::Kept,
+            Turn::Free | Turn::Busy | Turn::Listen => EventEffect::Unchanged,
             _ => self.give(0x00, 0),
         }
     }

@@ -1,4 +1,4 @@
-// What an access or event changes, and no more. A rule reads the record and answers this, so that no rule copies the buffer.
+// Effects: what an access or event changes, and no more. A rule reads the record and gives its effect, so that no rule makes a record.
 use crate::record::Controller;
 use answer::Answer;
 use answer::Refusal;
@@ -15,7 +15,7 @@ ghost use Rattle.controller.specs.declared.record.Controller.{Controller
 pub enum ReadEffect {
     Refused(Refusal),
     // This is read, and nothing changes.
-    Kept(u8),
+    Unchanged(u8),
     // This is read from I2CDAT, and the hand place goes on by one.
     Advanced(u8),
 }
@@ -50,24 +50,25 @@ pub enum WriteEffect {
 pub enum EventEffect {
     Refused(Refusal),
     // Accepted, and nothing changes.
-    Kept,
-    // The controller waits in this turn now: after another's START, after an address byte that it does not match (a NACK, the value 1),
-    // and after another's STOP.
+    Unchanged,
+    // The controller listens, after another's START.
     Listen,
+    // The bus is busy, after an address byte that the controller does not match: a NACK, the value 1.
     Busy,
+    // The bus is free, after another's STOP.
     Free,
     // Own STOP: the bus is free, and STO is 0.
     Stopped,
-    // A status and the edge that goes with it: the host's turn, and the hand place back at 0; the value.
+    // Status, edge, value: the host's turn, and the hand place back at 0.
     Interrupts(u8, Edge, u8),
     // A data byte went out and is counted; the move goes on.
     Sent(u8),
-    // The same, and the move ends with this status.
+    // Status, byte: the same, and the move ends with the status.
     SentLast(u8, u8),
     // A data byte came in, is stored at the cursor and counted; the move goes on.
-    Stored(u8),
-    // The same, and the move ends with this status; the value.
-    StoredLast(u8, u8, u8),
+    Received(u8),
+    // Status, byte, value: the same, and the move ends with the status.
+    ReceivedLast(u8, u8, u8),
     Reset,
 }
 
@@ -79,14 +80,14 @@ impl ReadEffect {
     {
         match self {
             ReadEffect::Refused(why) => Answer::Refused(why),
-            ReadEffect::Kept(value) => Answer::Accepted(value),
+            ReadEffect::Unchanged(value) => Answer::Accepted(value),
             ReadEffect::Advanced(value) => Answer::Accepted(value),
         }
     }
 }
 
 impl ControlEffect {
-    // As of any register.
+    // The same, as the effect of a write.
     pub(crate) fn widen(self) -> WriteEffect
         ensures { λ r. ⌜ ((c : Controller) → afterWrite c r ≡ afterControl c self) ⌝ }
     {
@@ -123,7 +124,7 @@ impl EventEffect {
     {
         match self {
             EventEffect::Refused(why) => Answer::Refused(why),
-            EventEffect::Kept => Answer::Accepted(0),
+            EventEffect::Unchanged => Answer::Accepted(0),
             EventEffect::Listen => Answer::Accepted(0),
             EventEffect::Busy => Answer::Accepted(1),
             EventEffect::Free => Answer::Accepted(0),
@@ -131,8 +132,8 @@ impl EventEffect {
             EventEffect::Interrupts(_, _, value) => Answer::Accepted(value),
             EventEffect::Sent(byte) => Answer::Accepted(byte),
             EventEffect::SentLast(_, byte) => Answer::Accepted(byte),
-            EventEffect::Stored(_) => Answer::Accepted(0),
-            EventEffect::StoredLast(_, _, value) => Answer::Accepted(value),
+            EventEffect::Received(_) => Answer::Accepted(0),
+            EventEffect::ReceivedLast(_, _, value) => Answer::Accepted(value),
             EventEffect::Reset => Answer::Accepted(0),
         }
     }

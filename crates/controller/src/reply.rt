@@ -5,7 +5,6 @@ use crate::effect::WriteEffect;
 use crate::record::Controller;
 use answer::Answer;
 use answer::Refusal;
-use control::turn::Edge;
 use control::turn::Turn;
 ghost use mathlib.Core.Bool.{true};
 ghost use mathlib.Core.Path.{_≡_};
@@ -59,7 +58,7 @@ impl Controller {
     {
         match effect {
             ReadEffect::Refused(why) => self.refused(why),
-            ReadEffect::Kept(value) => self.accepted(value),
+            ReadEffect::Unchanged(value) => self.accepted(value),
             ReadEffect::Advanced(value) => {
                 self.hand += 1;
                 self.accepted(value)
@@ -75,7 +74,7 @@ impl Controller {
         match effect {
             WriteEffect::Refused(why) => self.refused(why),
             WriteEffect::Pointed(pointer) => self.pointed(pointer).accepted(0),
-            WriteEffect::Loaded(byte) => self.with_place(self.hand, byte).advanced().accepted(0),
+            WriteEffect::Loaded(byte) => self.with_place(self.hand, byte).loaded().accepted(0),
             WriteEffect::Registered(value) => self.registered(value).accepted(0),
             WriteEffect::Armed(armed) => {
                 self.armed = armed;
@@ -93,7 +92,7 @@ impl Controller {
     {
         match effect {
             EventEffect::Refused(why) => self.refused(why),
-            EventEffect::Kept => self.accepted(0),
+            EventEffect::Unchanged => self.accepted(0),
             EventEffect::Listen => self.turned(Turn::Listen).accepted(0),
             EventEffect::Busy => self.turned(Turn::Busy).accepted(1),
             EventEffect::Free => self.turned(Turn::Free).accepted(0),
@@ -105,12 +104,12 @@ impl Controller {
                 self.accepted(byte)
             }
             EventEffect::SentLast(status, byte) => self.ended(status).accepted(byte),
-            EventEffect::Stored(byte) => {
+            EventEffect::Received(byte) => {
                 let mut stored = self.with_place(self.cursor(), byte);
                 stored.moved += 1;
                 stored.accepted(0)
             }
-            EventEffect::StoredLast(status, byte, value) => self.with_place(self.cursor(), byte)
+            EventEffect::ReceivedLast(status, byte, value) => self.with_place(self.cursor(), byte)
                 .ended(status)
                 .accepted(value),
             EventEffect::Reset => self.reset().accepted(0),

@@ -108,12 +108,12 @@ impl Controller {
     {
         if self.is_last() {
             if self.acknowledges_last() {
-                EventEffect::StoredLast(taken, byte, 0)
+                EventEffect::ReceivedLast(taken, byte, 0)
             } else {
-                EventEffect::StoredLast(ended, byte, 1)
+                EventEffect::ReceivedLast(ended, byte, 1)
             }
         } else {
-            EventEffect::Stored(byte)
+            EventEffect::Received(byte)
         }
     }
 

@@ -19,7 +19,7 @@ ghost use Rattle.notation.specs.Overlay.{laid};
 ghost use Rattle.service.specs.JobTable.{jobTable};
 
 // Takes pairs while the job lasts; what it breaks with is the end of the job. (The record is held beside the progress, and each event
-// changes it in place, so that a pair copies nothing.)
+// changes it in place, so that a pair without work copies no buffer.)
 pub(crate) fn run_pairs(
     start: Progress,
     job: Job,
@@ -48,7 +48,7 @@ pub(crate) fn run_pairs(
         let effect = c.event_effect(event, argument);
         match effect {
             EventEffect::Refused(why) => break end_at(p, c, events, sent, Ending::Refused(why)),
-            EventEffect::Kept => {}
+            EventEffect::Unchanged => {}
             EventEffect::Listen => c = c.turned(Turn::Listen),
             EventEffect::Busy => c = c.turned(Turn::Busy),
             EventEffect::Free => c = c.turned(Turn::Free),
@@ -56,12 +56,12 @@ pub(crate) fn run_pairs(
             EventEffect::Interrupts(status, edge, _) => c = c.interrupted(status, edge),
             EventEffect::Sent(_) => c.moved += 1,
             EventEffect::SentLast(status, _) => c = c.ended(status),
-            EventEffect::Stored(byte) => {
+            EventEffect::Received(byte) => {
                 let cursor = c.cursor() as usize;
                 c.buffer[cursor] = byte;
                 c.moved += 1;
             }
-            EventEffect::StoredLast(status, byte, _) => {
+            EventEffect::ReceivedLast(status, byte, _) => {
                 let last = c.cursor() as usize;
                 c.buffer[last] = byte;
                 c = c.ended(status);

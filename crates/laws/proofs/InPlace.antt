@@ -30,14 +30,14 @@ module _ (c : Controller) (register value : ℕ) (s : sound c ≡ true) where
 
 module _ (c : Controller) (number argument : ℕ) (s : sound c ≡ true) where
   -- a data byte that is stored: there is a place for it
-  pub stored-below : (byte : ℕ) → afterEvent c (event.Stored byte) ≡ eventOf c number argument → c .moved < 68
+  pub received-below : (byte : ℕ) → afterEvent c (event.Received byte) ≡ eventOf c number argument → c .moved < 68
   unfolding afterEvent accepts received
-  stored-below byte e =
+  received-below byte e =
       omega (arith, parts _ (ap (λ (o : Outcome). sound (o .next)) e ∙ event-stays-sound c number argument s) .moved)
 
-  pub stored-last-below : (status byte value : ℕ) → afterEvent c (event.StoredLast status byte value) ≡ eventOf c number argument → c .moved < 68
+  pub received-last-below : (status byte value : ℕ) → afterEvent c (event.ReceivedLast status byte value) ≡ eventOf c number argument → c .moved < 68
   unfolding afterEvent accepts interruptsAt received
-  stored-last-below status byte value e =
+  received-last-below status byte value e =
       omega (arith, parts _ (ap (λ (o : Outcome). sound (o .next)) e ∙ event-stays-sound c number argument s) .moved)
 
 -- The record that an accepted event leaves, where a loop has made it.
@@ -54,12 +54,12 @@ module _ {c d : Controller} {e : EventEffect} where
 
   -- a byte is stored at the cursor
   module _ {byte at : ℕ} (place : at ≡ cursor c) where
-    pub stored-applied : e ≡ event.Stored byte → d ≡ counted (withPlace c at byte) → Applied c e d
+    pub received-applied : e ≡ event.Received byte → d ≡ counted (withPlace c at byte) → Applied c e d
     unfolding afterEvent accepts received
-    stored-applied q next = applied q (next ∙ ap (λ (i : ℕ). counted (withPlace c i byte)) place) refl
+    received-applied q next = applied q (next ∙ ap (λ (i : ℕ). counted (withPlace c i byte)) place) refl
 
-    pub stored-last-applied : {status value : ℕ} → e ≡ event.StoredLast status byte value →
+    pub received-last-applied : {status value : ℕ} → e ≡ event.ReceivedLast status byte value →
         d ≡ withHand (withTurn (counted (withPlace c at byte)) (Host status Stop)) 0 → Applied c e d
     unfolding afterEvent accepts interruptsAt received
-    stored-last-applied {status} q next =
+    received-last-applied {status} q next =
         applied q (next ∙ ap (λ (i : ℕ). withHand (withTurn (counted (withPlace c i byte)) (Host status Stop)) 0) place) refl

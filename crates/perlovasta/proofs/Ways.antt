@@ -16,7 +16,7 @@ use Rattle.controller.specs.Effect.{afterRead, afterWrite, afterEvent}
 use Rattle.controller.specs.Event.{eventOf}
 use Rattle.controller.specs.Reply.{Outcome, refuses, accepts}
 use Rattle.controller.specs.declared.effect.EventEffect.{EventEffect}
-use Rattle.controller.specs.declared.effect.ReadEffect.the-variants.{Refused, Kept, Advanced}
+use Rattle.controller.specs.declared.effect.ReadEffect.the-variants.{Refused, Unchanged, Advanced}
 use Rattle.controller.specs.declared.effect.ReadEffect.{ReadEffect}
 use Rattle.controller.specs.declared.effect.WriteEffect.{WriteEffect}
 use Rattle.controller.specs.declared.record.Controller.{Controller}
@@ -60,5 +60,5 @@ module _ (c : Controller) (kind place value : ℕ) {given answer : Answer} {next
 pub read-kept : (c : Controller) (e : ReadEffect) → OneOf (0 ∷ 1 ∷ []) (tagOf the-type e) → c ≡ (afterRead c e) .next
 unfolding afterRead refuses accepts
 read-kept c (Refused why) h = refl
-read-kept c (Kept value) h = refl
+read-kept c (Unchanged value) h = refl
 read-kept c (Advanced value) h = absurd (⊎-elim (λ k. omega (arith, k)) (λ k. omega (arith, k)) h)

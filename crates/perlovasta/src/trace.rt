@@ -62,7 +62,7 @@ pub(crate) fn put_log(start: Controller, trace: &[u8], log: &mut [u8])
                     WriteEffect::Loaded(byte) => {
                         let hand = c.hand as usize;
                         c.buffer[hand] = byte;
-                        c = c.advanced();
+                        c = c.loaded();
                     }
                     WriteEffect::Registered(byte) => c = c.registered(byte),
                     WriteEffect::Armed(armed) => c.armed = armed,
@@ -75,7 +75,7 @@ pub(crate) fn put_log(start: Controller, trace: &[u8], log: &mut [u8])
                 answer = effect.answer();
                 match effect {
                     EventEffect::Refused(_) => {}
-                    EventEffect::Kept => {}
+                    EventEffect::Unchanged => {}
                     EventEffect::Listen => c = c.turned(Turn::Listen),
                     EventEffect::Busy => c = c.turned(Turn::Busy),
                     EventEffect::Free => c = c.turned(Turn::Free),
@@ -83,12 +83,12 @@ pub(crate) fn put_log(start: Controller, trace: &[u8], log: &mut [u8])
                     EventEffect::Interrupts(status, edge, _) => c = c.interrupted(status, edge),
                     EventEffect::Sent(_) => c.moved += 1,
                     EventEffect::SentLast(status, _) => c = c.ended(status),
-                    EventEffect::Stored(byte) => {
+                    EventEffect::Received(byte) => {
                         let cursor = c.cursor() as usize;
                         c.buffer[cursor] = byte;
                         c.moved += 1;
                     }
-                    EventEffect::StoredLast(status, byte, _) => {
+                    EventEffect::ReceivedLast(status, byte, _) => {
                         let cursor = c.cursor() as usize;
                         c.buffer[cursor] = byte;
                         c = c.ended(status);

@@ -9,7 +9,7 @@ use service::job::Job;
 ghost use mathlib.Core.Path.{_≡_};
 ghost use Rattle.requests.specs.Jobs.{freshEnabled, directionFor, jobFor};
 
-// A fresh controller, enabled by 40h: nothing is worked out where the program runs.
+// A fresh controller, enabled by 40h: written out, so that no write is run.
 pub fn fresh_enabled() -> Controller
     ensures { λ r. ⌜ r ≡ freshEnabled ⌝ }
 {

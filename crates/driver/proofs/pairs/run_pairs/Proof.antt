@@ -20,7 +20,7 @@ use Rattle.controller.specs.declared.effect.EventEffect.{EventEffect}
 use Rattle.controller.specs.declared.record.Controller.{Controller}
 use Rattle.driver.specs.Run.{Run, endedOf, endedResult, run, closes, taking}
 use Rattle.driver.specs.declared.result.Ended.{Ended}
-use Rattle.laws.proofs.InPlace.{stored-below, stored-last-below, Applied, applied, stored-applied, stored-last-applied}
+use Rattle.laws.proofs.InPlace.{received-below, received-last-below, Applied, applied, received-applied, received-last-applied}
 use Rattle.laws.proofs.Soundness.{event-stays-sound}
 use Rattle.notation.specs.Choice.{if_then_else_}
 use Rattle.notation.specs.Overlay.{laid, laidAt}
@@ -104,8 +104,8 @@ met c =
     (⊎-elim (λ w. (applied (w .1 .given .1) (w .4 ∙ w .3 .ensures) refl, w .5 ∙ sym (w .1 .given .1)))
     (⊎-elim (λ w. (applied (w .1 .given .1) (w .2) refl, w .3))
     (⊎-elim (λ w. (applied (w .1 .given .1) (w .4 ∙ w .3 .ensures) refl, w .5 ∙ sym (w .1 .given .1)))
-    (⊎-elim (λ w. (stored-applied (w .3 .ensures) (w .1 .given .1) (w .4), w .5 ∙ sym (w .1 .given .1)))
-    (⊎-elim (λ w. (stored-last-applied (w .3 .ensures) (w .1 .given .1) (w .5 ∙ w .4 .ensures), w .6 ∙ sym (w .1 .given .1)))
+    (⊎-elim (λ w. (received-applied (w .3 .ensures) (w .1 .given .1) (w .4), w .5 ∙ sym (w .1 .given .1)))
+    (⊎-elim (λ w. (received-last-applied (w .3 .ensures) (w .1 .given .1) (w .5 ∙ w .4 .ensures), w .6 ∙ sym (w .1 .given .1)))
     (λ w. (applied (w .1 .given .1) (w .3 ∙ w .2 .ensures) refl, w .4)))))))))))
     (c .match .came)
 
@@ -205,7 +205,7 @@ element-write-c : tie.Need-element-write-c Inv-loop μ-loop
 element-write-c c =
     let l = c .before .before .before .before .before .before .before .before .loop in
     let event = sym (ap (afterEvent (l .c)) (c .before .before .effect4 .given .1)) ∙ c .before .before .before .before .event-effect .ensures in
-    omega (arith, c .cursor .ensures, cursor-below (l .c) (stored-below (l .c) _ _ (l .inv .5) _ event))
+    omega (arith, c .cursor .ensures, cursor-below (l .c) (received-below (l .c) _ _ (l .inv .5) _ event))
 
 add-c-2 : tie.Need-add-c-2 Inv-loop μ-loop
 add-c-2 c =
@@ -216,7 +216,7 @@ element-write-c-2 : tie.Need-element-write-c-2 Inv-loop μ-loop
 element-write-c-2 c =
     let l = c .before .before .before .before .before .before .before .before .loop in
     let event = sym (ap (afterEvent (l .c)) (c .before .before .effect5 .given .1)) ∙ c .before .before .before .before .event-effect .ensures in
-    omega (arith, c .cursor2 .ensures, cursor-below (l .c) (stored-last-below (l .c) _ _ (l .inv .5) _ _ _ event))
+    omega (arith, c .cursor2 .ensures, cursor-below (l .c) (received-last-below (l .c) _ _ (l .inv .5) _ _ _ event))
 
 ended-requires-2 : tie.Need-ended-requires-2 Inv-loop μ-loop
 ended-requires-2 c κs =

@@ -13,7 +13,7 @@ use Rattle.controller.specs.Record.{sound}
 use Rattle.controller.specs.Registers.{wrote}
 use Rattle.controller.specs.Reply.{Outcome, refuses, accepts, waitsFor, interruptsAt}
 use Rattle.controller.specs.Transfer.{received}
-use Rattle.laws.proofs.InPlace.{loaded-below, stored-below, stored-last-below}
+use Rattle.laws.proofs.InPlace.{loaded-below, received-below, received-last-below}
 use Rattle.notation.proofs.Overlay.{at-start, none}
 use Rattle.notation.specs.Overlay.{laid, laidAt}
 use Rattle.requests.specs.Groups.{groupOf}
@@ -47,14 +47,14 @@ element-write-c-2 : tie.Need-element-write-c-2 Inv-loop μ-loop
 element-write-c-2 c =
     let e = c .before .before .before .before .before in
     let l = e .before .before .before .before .before .before .loop in
-    let below = stored-below (l .c) _ _ (l .inv .3) _ (rw (c .before .before .effect8 .given .1) at (e .event-effect .ensures)) in
+    let below = received-below (l .c) _ _ (l .inv .3) _ (rw (c .before .before .effect8 .given .1) at (e .event-effect .ensures)) in
     rw (c .cursor .ensures) (cursor-below (l .c) below)
 
 element-write-c-3 : tie.Need-element-write-c-3 Inv-loop μ-loop
 element-write-c-3 c =
     let e = c .before .before .before .before .before in
     let l = e .before .before .before .before .before .before .loop in
-    let below = stored-last-below (l .c) _ _ (l .inv .3) _ _ _ (rw (c .before .before .effect9 .given .1) at (e .event-effect .ensures)) in
+    let below = received-last-below (l .c) _ _ (l .inv .3) _ _ _ (rw (c .before .before .effect9 .given .1) at (e .event-effect .ensures)) in
     rw (c .cursor2 .ensures) (cursor-below (l .c) below)
 
 -- where the arms meet

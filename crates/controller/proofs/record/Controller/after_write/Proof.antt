@@ -9,8 +9,8 @@ use Rattle.controller.specs.declared.record.Controller.{Controller}
 use Rattle.controller.proofs.record.Controller.after_write.Statement.{statement}
 use Rattle.controller.proofs.record.Controller.after_write.Tie as tie
 
-advanced-requires : tie.Need-advanced-requires
-advanced-requires c κs =
+loaded-requires : tie.Need-loaded-requires
+loaded-requires c κs =
     let start = c .before .before .before .before in
     omega (arith, ap (λ (d : Controller). d .hand) (c .with-place .ensures), parts (start .args .self) (start .pre) .hand)
 
@@ -25,7 +25,7 @@ returns-2 c = c .accepted .ensures ∙ rw (c .before .pointed .ensures, c .befor
 returns-3 : tie.Need-returns-3
 unfolding afterWrite wrote
 returns-3 c =
-    c .accepted2 .ensures ∙ rw (c .before .advanced .ensures, c .before .before .with-place .ensures, c .before .before .before .before .effect3 .given .1)
+    c .accepted2 .ensures ∙ rw (c .before .loaded .ensures, c .before .before .with-place .ensures, c .before .before .before .before .effect3 .given .1)
 
 returns-4 : tie.Need-returns-4
 unfolding afterWrite wrote
@@ -54,7 +54,7 @@ after-write-spec =
     (λ c κs. search needs)
     (λ c. search needs)
     (λ c κs. search needs)
-    advanced-requires
+    loaded-requires
     (λ c κs. search needs)
     (λ c. search needs)
     (λ c κs. search needs)
