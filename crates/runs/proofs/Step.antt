@@ -20,12 +20,10 @@ use Rattle.controller.specs.declared.record.Controller.{Controller}
 use Rattle.driver.specs.Run.{taking}
 use Rattle.laws.proofs.Addresses.{silent-without-aa}
 use Rattle.notation.proofs.Among.{has, every, same, clash}
-use Rattle.notation.proofs.Cases.{if-true, if-false}
-use Rattle.notation.specs.Choice.{if_then_else_}
 use Rattle.runs.proofs.Invariant.{In, jobTurns, earlyTurns, limit, carriedAfter, sentAfter, Good, Stepped, ended, going}
 use Rattle.runs.proofs.Lines.{Line}
 use Rattle.service.proofs.AnyTable.{at-idle, at-status}
-use Rattle.service.specs.Act.{ends, Work, reads, follows, performs}
+use Rattle.service.specs.Act.{ends, Work, follows, performs}
 use Rattle.service.specs.Serve.{Table, serve}
 use Rattle.service.specs.declared.job.Job.{Job}
 use Rattle.service.specs.declared.progress.Progress.{Progress}

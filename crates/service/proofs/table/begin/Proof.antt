@@ -9,7 +9,6 @@ use Rattle.notation.proofs.Among.{apart}
 use Rattle.notation.proofs.Cases.{and-left, and-right}
 use Rattle.service.proofs.AccessesLeave.{pointer-written}
 use Rattle.service.proofs.Sound.{put-sound}
-use Rattle.service.specs.Act.{put}
 use Rattle.service.specs.Request.{ready}
 use Rattle.service.proofs.table.begin.Statement.{statement}
 use Rattle.service.proofs.table.begin.Tie as tie
