@@ -1,10 +1,11 @@
 -- Which address byte the controller answers to (document 01, Events, 5). I2CADR has the own address in bits 7..1 and GC in bit 0.
 use mathlib.Core.Bool.{Bool}
-use Prim.Native.Nat.{ℕ, _/_, _%_}
+use Prim.Native.Nat.{ℕ, _%_}
 use lib.Dec.{eqb, ltb}
 use Rattle.address.specs.Number.{addressOf, directionOf}
 use Rattle.address.specs.declared.matching.Match.the-variants.{Own, General, Nothing}
 use Rattle.address.specs.declared.matching.Match.{Match}
+use Rattle.address.specs.declared.number.Address.{Address}
 use Rattle.address.specs.declared.number.AddressByte.{AddressByte}
 use Rattle.notation.specs.Choice.{if_then_else_, _and_}
 
@@ -12,9 +13,13 @@ use Rattle.notation.specs.Choice.{if_then_else_, _and_}
 unfoldable pub callsAll : ℕ → AddressByte → Bool
 callsAll i2cadr byte = eqb (i2cadr % 2) 1 and eqb (byte .0) 0x00
 
+-- I2CADR's address: its upper seven bits, as those of an address byte
+abbrev ownAddress : ℕ → Address
+ownAddress i2cadr = addressOf (record { 0 = i2cadr })
+
 -- "I2CADR's address not zero and equal to the byte's upper seven bits"
 unfoldable pub callsOwn : ℕ → AddressByte → Bool
-callsOwn i2cadr byte = ltb 0 (i2cadr / 2) and eqb (addressOf byte .0) (i2cadr / 2)
+callsOwn i2cadr byte = ltb 0 (ownAddress i2cadr .0) and eqb (addressOf byte .0) (ownAddress i2cadr .0)
 
 -- General Call, else the own address with its direction, else nothing; nothing at all with AA 0
 unfoldable pub matchOf : ℕ → Bool → AddressByte → Match

@@ -1,4 +1,5 @@
-// Which address byte a controller answers to.
+// Which address byte a controller answers to. Three branches decide it, those of `match_address`; what it calls has none: `&` works out both
+// its sides, where `&&` would be a branch.
 use crate::number::AddressByte;
 use crate::number::Direction;
 ghost use mathlib.Core.Path.{_≡_};
@@ -11,26 +12,20 @@ pub enum Match {
     Nothing,
 }
 
-// The byte is a General Call, and I2CADR's GC bit allows it.
+// The byte is a General Call, 00h, and I2CADR's GC bit allows it: no other byte is below GC, and none where GC is 0.
 fn calls_all(i2cadr: u8, byte: AddressByte) -> bool
     ensures { λ r. ⌜ r ≡ callsAll i2cadr byte ⌝ }
 {
-    let allowed = i2cadr % 2 == 1;
-    if allowed { byte.0 == 0x00 } else { false }
+    byte.0 < i2cadr % 2
 }
 
 // The byte has the own address, which is not zero.
 fn calls_own(i2cadr: u8, byte: AddressByte) -> bool
     ensures { λ r. ⌜ r ≡ callsOwn i2cadr byte ⌝ }
 {
-    let own = i2cadr / 2;
-    let present = 0 < own;
-    if present {
-        let called = byte.address();
-        called.0 == own
-    } else {
-        false
-    }
+    let own = AddressByte(i2cadr).address();
+    let called = byte.address();
+    (0 < own.0) & (called.0 == own.0)
 }
 
 // What an address byte is to a controller with this I2CADR and AA.

@@ -5,6 +5,7 @@
 #![forbid(unsafe_code)]
 #![warn(missing_docs)]
 
+pub mod address_bytes;
 pub mod check;
 pub mod difference;
 pub mod group;

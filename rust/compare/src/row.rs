@@ -24,6 +24,8 @@ pub enum Expected {
     Answer(u8),
     /// This refusal of each group of a trace but the first; 0 for accepted.
     Refusal(u8),
+    /// Every group of a trace accepted, and this status after the last.
+    Status(u8),
     /// A log with whatever refusals.
     Log,
     /// False and nothing written, for a job whose report is too short.
@@ -130,6 +132,11 @@ impl<'a> Row<'a> {
             Expected::Refusal(refusal) => {
                 let mut later = lent.told.chunks(ENTRY_LEN).skip(1);
                 lent.returned && later.all(|entry| entry[0] == refusal)
+            }
+            Expected::Status(status) => {
+                let accepted = lent.told.chunks(ENTRY_LEN).all(|entry| entry[0] == 0);
+                let last = lent.told.chunks(ENTRY_LEN).last();
+                lent.returned && accepted && last.is_some_and(|entry| entry[2] == status)
             }
             Expected::Log => lent.returned,
             Expected::Nothing => !lent.returned && lent.told.iter().all(|&byte| byte == UNTOUCHED),
