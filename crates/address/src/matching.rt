@@ -1,4 +1,4 @@
-// Which address byte a controller answers to. Three branches decide it, those of `match_address`; what it calls has none: `&` works out both
+// Which address byte a controller answers to. Three branches decide it, those of `match_address`. What it calls has none: `&` works out both
 // its sides, where `&&` would be a branch.
 use crate::number::AddressByte;
 use crate::number::Direction;
@@ -36,9 +36,13 @@ pub fn match_address(i2cadr: u8, aa: bool, byte: AddressByte) -> Match
         if calls_all(i2cadr, byte) {
             return Match::General;
         }
-        if calls_own(i2cadr, byte) {
-            return Match::Own(byte.direction());
-        }
+        // R, and 2 more where the byte has not the own address.
+        let key = byte.0 % 2 + 2 * (!calls_own(i2cadr, byte) as u8);
+        return match key {
+            0 => Match::Own(Direction::Write),
+            1 => Match::Own(Direction::Read),
+            _ => Match::Nothing,
+        };
     }
     Match::Nothing
 }

@@ -14,9 +14,6 @@ pub enum Direction {
     Read,
 }
 
-// The direction by R: looked up, since a test would be a branch more in each address match.
-const DIRECTIONS: [Direction; 2] = [Direction::Write, Direction::Read];
-
 impl Direction {
     pub fn bit(self) -> u8
         ensures { λ r. ⌜ r ≡ bitOf self ⌝ }
@@ -48,7 +45,11 @@ impl AddressByte {
     pub fn direction(self) -> Direction
         ensures { λ r. ⌜ r ≡ directionOf self ⌝ }
     {
-        let r = (self.0 % 2) as usize;
-        DIRECTIONS[r]
+        let read = self.0 % 2 == 1;
+        if read {
+            Direction::Read
+        } else {
+            Direction::Write
+        }
     }
 }
