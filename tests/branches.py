@@ -1,19 +1,18 @@
 """Counts the branches of a function, with those of every function it calls, each as often as it is called.
 
-usage: rt mir CRATE | python3 tests/branches.py FUNCTION MOST
+usage: python3 tests/branches.py FUNCTION MOST < what `rt mir CRATE` printed
 
-Reads the compiler's own form of the source, before anything is optimised: there every `if`, `&&` and `||` is an `if`, every `match` a `switch`
-and every `while`, `for` and `loop` a `loop`. FUNCTION is a whole path. More than MOST branches are a failure.
+Reads the compiler's own form of the source, before anything is optimised. There an `if`, an `&&` and an `||` are an `if` each, a `match` is a
+`switch` with an `if` or two for each range, and a `while` or `for` is a `loop` with an `if`. FUNCTION is a whole path. More than MOST branches
+are a failure, and so is a call that cannot be followed.
 """
 import re
 import sys
 
-BRANCH = {'if', 'switch', 'loop'}
-
 
 def functions(text):
     """What stands between each function's name and the next, by name."""
-    parts = re.split(r'\(fn-def "([^"]+)"', text)
+    parts = re.split(r'\(fn-def\s+"([^"]+)"', text)
     return dict(zip(parts[1::2], parts[2::2]))
 
 
@@ -23,12 +22,12 @@ def count(bodies, name, above=()):
         sys.exit(f'{name} calls itself: its branches cannot be counted')
     if name not in bodies:
         sys.exit(f'{name}: there is no such function')
-    own = sum(word in BRANCH for word in re.findall(r'\((\w+)', bodies[name]))
-    called = re.findall(r'\(call \((\S+)(?: \(fnRef "([^"]+)"\))?', bodies[name])
-    if any(kind != 'direct' for kind, _ in called):
-        sys.exit(f'{name} calls what is not a named function')
+    own = len(re.findall(r'\((if|switch|loop)\b', bodies[name]))
+    called = re.findall(r'\(call\s+\(direct\s+\(fnRef\s+"([^"]+)"', bodies[name])
+    if len(called) != len(re.findall(r'\(call\b', bodies[name])):
+        sys.exit(f'{name} has a call that is not by name')
     print(f'    {"    " * len(above)}{name}: {own}')
-    return own + sum(count(bodies, callee, (*above, name)) for _, callee in called)
+    return own + sum(count(bodies, callee, (*above, name)) for callee in called)
 
 
 def main():

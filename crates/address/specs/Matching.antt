@@ -13,7 +13,7 @@ use Rattle.notation.specs.Choice.{if_then_else_, _and_}
 unfoldable pub callsAll : ℕ → AddressByte → Bool
 callsAll i2cadr byte = eqb (i2cadr % 2) 1 and eqb (byte .0) 0x00
 
--- I2CADR's address: its upper seven bits, as those of an address byte
+-- "I2CADR (address in 7..1, GC bit 0)": its address lies where an address byte has one
 abbrev ownAddress : ℕ → Address
 ownAddress i2cadr = addressOf (record { 0 = i2cadr })
 

@@ -12,7 +12,7 @@ pub enum Match {
     Nothing,
 }
 
-// The byte is a General Call, 00h, and I2CADR's GC bit allows it: no other byte is below GC, and none where GC is 0.
+// The byte is 00h and I2CADR's GC is 1. One comparison says both: below 1 there is only 0, and below 0 nothing.
 fn calls_all(i2cadr: u8, byte: AddressByte) -> bool
     ensures { λ r. ⌜ r ≡ callsAll i2cadr byte ⌝ }
 {
@@ -36,7 +36,7 @@ pub fn match_address(i2cadr: u8, aa: bool, byte: AddressByte) -> Match
         if calls_all(i2cadr, byte) {
             return Match::General;
         }
-        // R, and 2 more where the byte has not the own address.
+        // R where the byte has the own address; 2 more where it has not.
         let key = byte.0 % 2 + 2 * (!calls_own(i2cadr, byte) as u8);
         return match key {
             0 => Match::Own(Direction::Write),

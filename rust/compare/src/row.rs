@@ -1,4 +1,4 @@
-//! A row of the benchmark: the same call to library and model, and what it has to give.
+//! A row: the same call to library and model, and what it has to give.
 
 use crate::side::{LIBRARY, MODEL, Side};
 use crate::timing::{Times, measure};
@@ -127,16 +127,15 @@ impl<'a> Row<'a> {
     }
 
     fn check(&self, lent: &Lent) {
+        let entries = lent.told.chunks(ENTRY_LEN);
         let as_expected = match self.expected {
             Expected::Answer(answer) => lent.returned && lent.told[0] == answer,
             Expected::Refusal(refusal) => {
-                let mut later = lent.told.chunks(ENTRY_LEN).skip(1);
-                lent.returned && later.all(|entry| entry[0] == refusal)
+                lent.returned && entries.skip(1).all(|entry| entry[0] == refusal)
             }
             Expected::Status(status) => {
-                let accepted = lent.told.chunks(ENTRY_LEN).all(|entry| entry[0] == 0);
-                let last = lent.told.chunks(ENTRY_LEN).last();
-                lent.returned && accepted && last.is_some_and(|entry| entry[2] == status)
+                let accepted = entries.clone().all(|entry| entry[0] == 0);
+                lent.returned && accepted && entries.last().is_some_and(|entry| entry[2] == status)
             }
             Expected::Log => lent.returned,
             Expected::Nothing => !lent.returned && lent.told.iter().all(|&byte| byte == UNTOUCHED),

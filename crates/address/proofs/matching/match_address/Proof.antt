@@ -6,14 +6,13 @@ use native.Mathlib.Omega.{arith}
 use lib.Dec.{eqb}
 use mir.Val.{boolByte}
 use borrow.Author.Needs.{needs}
-use borrow.Author.Tests.{ne-eqb}
 use Rattle.address.specs.Matching.{callsAll, callsOwn, matchOf}
 use Rattle.address.specs.Number.{directionOf}
 use Rattle.address.specs.declared.matching.Match.the-variants.{Own, Nothing}
 use Rattle.address.specs.declared.matching.Match.{Match}
 use Rattle.address.specs.declared.number.AddressByte.{AddressByte}
 use Rattle.address.specs.declared.number.Direction.the-variants.{Write, Read}
-use Rattle.notation.proofs.Cases.{if-false, calls, cases}
+use Rattle.notation.proofs.Cases.{calls, cases}
 use Rattle.notation.specs.Choice.{if_then_else_}
 use Rattle.address.proofs.matching.match_address.Statement.{statement}
 use Rattle.address.proofs.matching.match_address.Tie as tie
@@ -31,10 +30,6 @@ own-keyed false zero h = refl
 own-keyed false (suc zero) h = refl
 own-keyed own (suc (suc r)) h = absurd (omega (arith, h))
 
-key-fits : (own : Bool) → 2 * boolByte (not own) < 3
-key-fits true = omega arith
-key-fits false = omega arith
-
 -- and so the whole definition, with AA 1
 matched :
     (i2cadr : ℕ) (aa : Bool) (byte : AddressByte) (all own : Bool) → aa ≡ true → all ≡ callsAll i2cadr byte → all ≡ false →
@@ -42,14 +37,15 @@ matched :
 unfolding matchOf directionOf
 matched i2cadr aa byte all own on a no-call o = own-keyed own (byte .0 % 2) (search needs) ∙ rw (o) (search (sym a ∙ no-call, cases))
 
--- the same where the key was made
-settled :
-    (c : tie.After-calls-own) →
-    let s = c .before .before .before .before .before .args in
-    keyed (s .byte .0 % 2 + 2 * boolByte (not (c .calls-own .result))) ≡ matchOf (s .i2cadr) (s .aa) (s .byte)
-settled c =
-    let at = c .before .before in
-    matched _ _ _ _ _ (at .before .before .if1 .taken) (at .before .calls-all .ensures) (at .if2 .left) (c .calls-own .ensures)
+-- the default arm
+keyed-none : (key : ℕ) → (key ≡ 0 → ⊥) → (key ≡ 1 → ⊥) → keyed key ≡ Nothing
+unfolding keyed
+keyed-none key p q = search cases
+
+-- the sum is a byte
+key-fits : (own : Bool) → 2 * boolByte (not own) < 3
+key-fits true = omega arith
+key-fits false = omega arith
 
 returns : tie.Need-returns
 unfolding matchOf
@@ -57,17 +53,14 @@ returns c = search calls
 
 returns-2 : tie.Need-returns-2
 unfolding keyed if_then_else_
-returns-2 c = sym (ap keyed (c .match .keys1)) ∙ settled (c .before)
+returns-2 c = sym (ap keyed (c .match .keys1)) ∙ search matched
 
 returns-3 : tie.Need-returns-3
 unfolding keyed if_then_else_
-returns-3 c = sym (ap keyed (c .match .keys2)) ∙ settled (c .before)
+returns-3 c = sym (ap keyed (c .match .keys2)) ∙ search matched
 
 returns-4 : tie.Need-returns-4
-unfolding keyed
-returns-4 c =
-    let none = c .match .rest in
-    sym (if-false _ _ _ (ne-eqb _ 0 (none .0 .1)) ∙ if-false _ _ _ (ne-eqb _ 1 (none .1))) ∙ settled (c .before)
+returns-4 c = sym (keyed-none _ (c .match .rest .0 .1) (c .match .rest .1)) ∙ search matched
 
 returns-5 : tie.Need-returns-5
 unfolding matchOf
