@@ -6,8 +6,8 @@
 use crate::group::{CONTROL, Group, INDIRECT, POINTER, event, write};
 use crate::row::{Call, Expected, Row};
 
-/// INDPTR at I2CADR.
-const OWN: u8 = 0x01;
+/// INDPTR for I2CADR.
+const I2CADR: u8 = 0x01;
 /// I2CCON with ENSIO.
 const ENABLED: u8 = 0x40;
 /// I2CCON with ENSIO and AA.
@@ -66,7 +66,7 @@ pub fn before_address_bytes() -> Vec<Row<'static>> {
 /// Enabled, then another master's START.
 fn listening(kind: &Kind) -> [Group; 4] {
     [
-        write(POINTER, OWN),
+        write(POINTER, I2CADR),
         write(INDIRECT, kind.i2cadr),
         write(CONTROL, kind.i2ccon),
         event([2, 0]),
