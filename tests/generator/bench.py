@@ -18,12 +18,18 @@ def record_text(c):
     turn = c.turn.name + (" " + c.turn.detail if c.turn.detail else "")
     return (f"status {c.status():02X} control {c.control():02X} "
             f"pointer {c.pointer} hand {c.hand} moved {c.moved} "
-            f"armed {c.armed} turn {turn}\n")
+            f"armed {c.armed} turn {turn}")
 
 
-def state_line(c, number, value):
+def called_text(found):
+    """Ask 5: whom the byte of an accepted event 5 or 8 called."""
+    return f" called {found.words()} {found.address:02X}" if found else ""
+
+
+def state_line(c, number, value, found):
     """The line that a group of kind 00, 01 or 02 prints."""
-    return f"refused {number} value {value:02X} " + record_text(c)
+    return (f"refused {number} value {value:02X} {record_text(c)}"
+            f"{called_text(found)}\n")
 
 
 def buffer_line(c):
@@ -31,11 +37,11 @@ def buffer_line(c):
 
 
 def group(c, kind, first, second):
-    """One group of kind 00, 01 or 02: (refusal number, value)."""
+    """One group of kind 00, 01 or 02: (refusal number, value, match)."""
     if kind == READ:
-        return model.read(c, first)
+        return (*model.read(c, first), None)
     if kind == WRITE:
-        return model.write(c, first, second)
+        return (*model.write(c, first, second), None)
     return model.event(c, first, second)
 
 
@@ -70,7 +76,7 @@ def next_group(data, k):
 def print_group(c, part):
     """What one whole group prints."""
     if part[0] == JOB:
-        return driver.print_job(job_group(c, part)) + record_text(c)
+        return driver.print_job(job_group(c, part)) + record_text(c) + "\n"
     if part[0] == FILL:
         c.buffer = [part[1]] * model.PLACES
         return ""

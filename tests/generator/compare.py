@@ -17,11 +17,16 @@ from random_jobs import job_group, job_input
 GROUPS = 5000
 INPUTS = 2000
 JOBS_AMONG = 0.03            # how often a group is a job, with those around it
+CALLS_AMONG = 0.03           # and how often an address byte, with those before
 CONTROL = (0x40, 0x60, 0xC0, 0xC1, 0x41, 0x50, 0x70, 0xE0, 0xE1)
 STORED = (0x00, 0x01, 0x02, 0x03, 0x44, 0x45, 0x81, 0x83, 0xC4, 0xA0, 0xA1,
           0xE1, 0xA5, 0x5A)
 BYTES = (0x00, 0x01, 0xA0, 0xA1, 0xE0, 0xE1)
+ADDRESSES = (0xE0, 0xE1, 0xA1, 0x00, 0x01)      # I2CADR
 ANSWERS = {0} | set(range(21, 30))       # Jobs: every answer
+# Ask 5: whom events 5 and 8 call, each with the status it gives
+CALLS = {"60 own write", "A8 own read", "D0 general", "F8 none",
+         "68 own write", "B0 own read", "D8 general", "38 none"}
 
 
 def some(draw, likely):
@@ -72,12 +77,34 @@ def jobs(draw):
     return out
 
 
+def call(draw):
+    """An address byte or a winner's, mostly with AA, that often matches."""
+    adr = some(draw, ADDRESSES)
+    own = (adr & 0xFE, adr | 1)
+    byte = some(draw, (0x00, 0x01) + own + own)
+    last = draw.choice((0x40, 0xC0, 0xC0, 0xC0))
+    out = bytes((2, 14, 0, 1, 0, 1, 1, 2, adr))
+    if draw.random() < 0.5:
+        return out + bytes((1, 3, last, 2, 2, 0, 2, 5, byte))
+    ours = some(draw, (0xFF, 0xFE, byte, min(byte + 1, 0xFF)))
+    return out + bytes((1, 3, 0x60, 2, 1, 0, 1, 1, ours, 1, 3, last,
+                        2, 8, byte))
+
+
+def groups(draw):
+    """One group, or a job or a call with those around it."""
+    way = draw.random()
+    if way < JOBS_AMONG:
+        return jobs(draw)
+    if way < JOBS_AMONG + CALLS_AMONG:
+        return call(draw)
+    return bytes(group(draw))
+
+
 def trace(seed):
     draw = random.Random(seed)
     out = [bytes((4, draw.randrange(256), 0))] if seed % 3 == 0 else []
-    for _ in range(GROUPS):
-        among = draw.random() < JOBS_AMONG
-        out.append(jobs(draw) if among else bytes(group(draw)))
+    out += [groups(draw) for _ in range(GROUPS)]
     raw = b"".join(out)
     if seed % 10 == 9:
         raw = raw[:-draw.randrange(1, 60)]       # often cut short
@@ -89,6 +116,17 @@ def answers(text):
     """How often each answer stands in an output."""
     return Counter(int(line.split()[1]) for line in text.splitlines()
                    if line.startswith("answer "))
+
+
+def calls(text):
+    """How often each call stands in an output, with the status given."""
+    lines = [line.split() for line in text.splitlines() if " called " in line]
+    return Counter(" ".join([words[5]] + words[words.index("called") + 1:-1])
+                   for words in lines)
+
+
+def told(found):
+    return ", ".join(f"{a} {found[a]} times" for a in sorted(found))
 
 
 def same(program, raw, want, name):
@@ -110,17 +148,20 @@ def same(program, raw, want, name):
     return False
 
 
-def compare(program, inputs, model, name, wanted):
-    """All inputs through program and model; every wanted answer occurs."""
-    found = Counter()
+def compare(program, inputs, model, name, wanted, wanted_calls):
+    """All inputs through program and model; all that is wanted occurs."""
+    found, called = Counter(), Counter()
     for seed, raw in enumerate(inputs):
         want = model(raw)
         found += answers(want)
+        called += calls(want)
         if not same(program, raw, want, f"{name} {seed}"):
             return False
-    told = ", ".join(f"{a} {found[a]} times" for a in sorted(found))
-    print(f"{name}s: program and model agree; answers {told}")
+    print(f"{name}s: program and model agree; answers {told(found)}")
+    if called:
+        print(f"{name}s: calls {told(called)}")
     assert set(found) == wanted, "every answer occurs"
+    assert set(called) == wanted_calls, "every call occurs"
     return True
 
 
@@ -132,10 +173,10 @@ def main(args):
     traces = (trace(seed) for seed in range(count))
     inputs = (job_input(random.Random(seed)) for seed in range(INPUTS))
     print(f"{count} traces of {GROUPS} random groups, {INPUTS} random jobs")
-    fine = compare(args[0], traces, bench.run, "random trace", ANSWERS)
-    # `job` runs on a fresh controller: never 22
+    fine = compare(args[0], traces, bench.run, "random trace", ANSWERS, CALLS)
+    # `job` runs on a fresh controller: never 22, and tells of no call
     fine = fine and compare(args[1], inputs, driver.job_program,
-                            "random job", ANSWERS - {22})
+                            "random job", ANSWERS - {22}, set())
     return 0 if fine else 1
 
 

@@ -124,7 +124,7 @@ def take_pairs(job, script):
     result = Result(27)              # the script ended first
     for k in range(0, len(script), 2):
         number, argument = script[k], script[k + 1]
-        refused, value = model.event(job.c, number, argument)
+        refused, value, _ = model.event(job.c, number, argument)
         if refused:
             result.answer, result.refused = 28, refused
             break

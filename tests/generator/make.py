@@ -29,7 +29,8 @@ from registers import make_registers
 from software_reset import make_software_reset
 from starts import make_start_ff
 from trace import (
-    HOSTS, SEEN_CONTROL, SEEN_EVENTS, SEEN_OFF, SEEN_REFUSALS, SEEN_STATUSES, TRACES, TURNS, parse)
+    HOSTS, SEEN_CALLS, SEEN_CONTROL, SEEN_EVENTS, SEEN_OFF, SEEN_REFUSALS,
+    SEEN_STATUSES, TRACES, TURNS, parse)
 
 # Long outputs, and how many of their lines repeat
 FOLDED = {"bad-65536": 5, "bad-65540": 5, "bad-job-65536": 6,
@@ -37,6 +38,15 @@ FOLDED = {"bad-65536": 5, "bad-65540": 5, "bad-job-65536": 6,
 LENGTHS = {"bad-65536": 65536, "bad-65540": 65540, "bad-65540-early": 65540,
            "bad-job-65536": 65536, "bad-job-65536-cut": 65536,
            "bad-job-65538": 65538, "bad-job-65539": 65539}
+# Ask 5: with AA 1, whom a byte calls with GC 0 and with GC 1
+CALLS = {"own R 0": ("own write", "own write"),
+         "own R 1": ("own read", "own read"),
+         "00h": ("none", "general"), "00h, own zero": ("none", "general"),
+         "01h": ("none", "none"), "01h, own zero": ("none", "none"),
+         "another": ("none", "none"), "another, own zero": ("none", "none")}
+# Ask 5: how lines of event-05 and event-08 end
+ENDS = (" called own write 70", " called own read 70", " called general 00",
+        " called none 70", " called none 71", " called none 00")
 
 
 def check_coverage():
@@ -54,6 +64,17 @@ def check_coverage():
     assert len(names) == len(set(names))
     return (f"(turn, event) pairs {len(turns) * 14}, I2CCON writes "
             f"{len(wanted)}, refusals 1-9, statuses {len(SEEN_STATUSES)}")
+
+
+def check_calls(files):
+    """Ask 5: each byte, AA and GC both ways, at events 5 and 8 alike."""
+    wanted = {(n, aa, gc, case, called[gc] if aa else "none")
+              for n in (5, 8) for aa in (0, 1) for gc in (0, 1)
+              for case, called in CALLS.items()}
+    assert SEEN_CALLS == wanted
+    for name in ("event-05.expected", "event-08.expected"):
+        assert all(end + "\n" in files[name] for end in ENDS)
+    return f"calls {len(wanted)}"
 
 
 def folded(text, size):
@@ -196,7 +217,8 @@ def main(args):
         print(__doc__)
         return 2
     sets = [trace_files(), job_files()]
-    print(f"covered: {check_coverage()}, {check_answers(*sets)}")
+    print(f"covered: {check_coverage()}, {check_calls(sets[0])}, "
+          f"{check_answers(*sets)}")
     act = check_folder if "--check" in args else write_folder
     wrong = [act(folder, files) for folder, files in zip(folders, sets)]
     return 1 if any(wrong) else 0

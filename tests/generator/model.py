@@ -1,6 +1,7 @@
-"""A plain reference model of the I2C controller, from document 01 alone.
+"""A plain reference model of the I2C controller, from the papers alone.
 
-Each rule stands beside a comment that names the paper's section.
+The rules are document 01's; each stands beside a comment that names the
+section. What the match answers is document 02's, Ask 5.
 """
 
 from dataclasses import dataclass, field
@@ -312,23 +313,23 @@ def give(c, status, detail=""):
 
 
 def event(c, n, a):
-    """An event: (refusal number, value)."""
+    """An event: (refusal number, value, the match of 5 and 8, else None)."""
     number = refuse_event(c, n, a)
     if number:
-        return number, 0             # Refusals: value 0, the record stays
-    if n == 5:
-        return 0, address_byte(c, a)
+        return number, 0, None       # Refusals: value 0, the record stays
+    if n in (5, 8):
+        found = match(c, a)          # by the record before the event
+        step = address_byte if n == 5 else arbitration_lost
+        return 0, step(c, found), found
     if n == 6:
-        return 0, byte_out(c, a)
+        return 0, byte_out(c, a), None
     if n == 7:
-        return 0, byte_in(c, a)
-    if n == 8:
-        return 0, arbitration_lost(c, a)
+        return 0, byte_in(c, a), None
     if n == 14:
         reset(c)                     # 14. as reset
     else:
         plain_event(c, n)
-    return 0, 0                      # The controller record: else 0
+    return 0, 0, None                # The controller record: else 0
 
 
 def plain_event(c, n):
@@ -364,33 +365,45 @@ def plain_event(c, n):
         give(c, 0x08)
 
 
+@dataclass(frozen=True)
+class Match:
+    """Ask 5: whom an address byte calls, and its seven-bit address."""
+    kind: str            # own, general, none
+    direction: str       # of own: write, read
+    address: int
+
+    def words(self):
+        return (self.kind + " " + self.direction).rstrip()
+
+
 def match(c, byte):
-    """Events, 5: general, receive or send for a match, else None."""
+    """Events, 5, answered as Ask 5 has it."""
+    address = byte >> 1              # byte = 2 x address + R
     if byte == 0x00 and c.aa and c.gc():
-        return "general"             # byte 00h with AA and GC
+        return Match("general", "", address)     # byte 00h with AA and GC
     own = c.adr >> 1                 # Registers: address in 7..1
-    if c.aa and own != 0 and own == byte >> 1:
-        return "send" if byte & 1 else "receive"     # R 1 for a read
-    return None
+    if c.aa and own != 0 and own == address:     # R 1 for a read
+        return Match("own", "read" if byte & 1 else "write", address)
+    return Match("none", "", address)
 
 
-def address_byte(c, byte):
+def address_byte(c, found):
     """Events, 5; the three codes mean ACK, no match is a NACK (value 1)."""
-    found = match(c, byte)
-    if found is None:
+    if found.kind == "none":
         c.turn = Turn("Busy")
         return 1
-    give(c, {"general": 0xD0, "receive": 0x60, "send": 0xA8}[found])
+    codes = {"general": 0xD0, "own write": 0x60, "own read": 0xA8}
+    give(c, codes[found.words()])
     return 0
 
 
-def arbitration_lost(c, byte):
+def arbitration_lost(c, found):
     """Events, 8: matched as in 5, else 38h (value 1)."""
-    found = match(c, byte)
-    if found is None:
+    if found.kind == "none":
         give(c, 0x38)
         return 1
-    give(c, {"general": 0xD8, "receive": 0x68, "send": 0xB0}[found])
+    codes = {"general": 0xD8, "own write": 0x68, "own read": 0xB0}
+    give(c, codes[found.words()])
     return 0
 
 

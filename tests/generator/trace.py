@@ -10,6 +10,7 @@ TRACES = []                  # every trace, in the order made
 SEEN_EVENTS = set()          # (turn, event)
 SEEN_CONTROL = set()         # (place, STA, STO, AA, MODE), ENSIO 1
 SEEN_OFF = set()             # (place), ENSIO 0
+SEEN_CALLS = set()           # (event, AA, GC, the byte, whom it calls)
 SEEN_REFUSALS = set()
 SEEN_STATUSES = set()
 
@@ -83,8 +84,10 @@ class Trace:
     def put(self, kind, a, b, show):
         c = self.c
         was, before = place(c), snapshot(c)
-        number, value = bench.group(c, kind, a, b)
+        number, value, found = bench.group(c, kind, a, b)
         note_cover(c, was, before, kind, a, b, number)
+        if found:
+            note_call(before, a, b, found)
         self.refused += number != 0
         self.printed += 1
         text = show or ""
@@ -141,6 +144,21 @@ def note_cover(c, was, before, kind, a, b, number):
     SEEN_STATUSES.add(c.status())
     if number:
         assert snapshot(c) == before, "a refusal leaves the record"
+
+
+def byte_case(own, byte):
+    """Ask 5: what an address byte is beside the own address."""
+    if own and byte >> 1 == own:
+        return f"own R {byte & 1}"
+    case = f"{byte:02X}h" if byte < 2 else "another"
+    return case if own else case + ", own zero"
+
+
+def note_call(before, n, byte, found):
+    """Keeps whom an accepted event 5 or 8 called, by the record before it."""
+    aa, own, gc = before["aa"], before["adr"] >> 1, before["adr"] & 1
+    SEEN_CALLS.add((n, aa, gc, byte_case(own, byte), found.words()))
+    assert found.address == byte >> 1
 
 
 def check_job(c, before, result, want):

@@ -1,15 +1,22 @@
-// Which address byte a controller answers to. Three branches decide it, those of `match_address`. What it calls has none: `&` works out both
-// its sides, where `&&` would be a branch.
+// Which address byte a controller answers to. Three branches decide it, those of `match_kind`. What it calls has none: `&` works out both its
+// sides, where `&&` would be a branch.
+use crate::number::Address;
 use crate::number::AddressByte;
 use crate::number::Direction;
 ghost use mathlib.Core.Path.{_≡_};
-ghost use Rattle.address.specs.Matching.{callsAll, callsOwn, matchOf};
+ghost use Rattle.address.specs.Matching.{callsAll, callsOwn, kindOf, matchOf};
 
-// What an address byte on the bus is to this controller.
+// What an address byte calls, as this controller takes it.
 pub enum Match {
     Own(Direction),
     General,
     Nothing,
+}
+
+// What the match answers: what was called and, in every case, the byte's own address.
+pub struct AddressMatch {
+    pub kind: Match,
+    pub address: Address,
 }
 
 // The byte is 00h and I2CADR's GC is 1. One comparison says both: below 1 there is only 0, and below 0 nothing.
@@ -28,9 +35,9 @@ fn calls_own(i2cadr: u8, byte: AddressByte) -> bool
     (0 < own.0) & (called.0 == own.0)
 }
 
-// What an address byte is to a controller with this I2CADR and AA.
-pub fn match_address(i2cadr: u8, aa: bool, byte: AddressByte) -> Match
-    ensures { λ r. ⌜ r ≡ matchOf i2cadr aa byte ⌝ }
+// What an address byte calls, for a controller with this I2CADR and AA.
+fn match_kind(i2cadr: u8, aa: bool, byte: AddressByte) -> Match
+    ensures { λ r. ⌜ r ≡ kindOf i2cadr aa byte ⌝ }
 {
     if aa {
         if calls_all(i2cadr, byte) {
@@ -45,4 +52,13 @@ pub fn match_address(i2cadr: u8, aa: bool, byte: AddressByte) -> Match
         };
     }
     Match::Nothing
+}
+
+// The whole answer for such a controller.
+pub fn match_address(i2cadr: u8, aa: bool, byte: AddressByte) -> AddressMatch
+    ensures { λ r. ⌜ r ≡ matchOf i2cadr aa byte ⌝ }
+{
+    let kind = match_kind(i2cadr, aa, byte);
+    let address = byte.address();
+    AddressMatch { kind, address }
 }

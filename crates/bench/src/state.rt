@@ -1,5 +1,6 @@
 // What is printed of an answer and of the record after it.
 use crate::print::print;
+use console::ward_log::put_call;
 use control::turn::Called;
 use control::turn::Edge;
 use control::turn::Turn;
@@ -86,33 +87,36 @@ fn put_numbers(line: &mut [u8], at: usize, c: Controller) -> usize {
     put_field(line, at, b" armed ", armed)
 }
 
-// The record, from `status` to the turn, and the line's end.
+// The record, from `status` to the turn.
 fn put_state(line: &mut [u8], at: usize, c: Controller) -> usize {
     let turn = c.turn;
     let at = put_byte(line, at, b"status ", reading(c, 0));
     let at = put_byte(line, at, b" control ", reading(c, 3));
     let at = put_numbers(line, at, c);
     let at = put_word(line, at, b" turn ");
-    let at = put_turn(line, at, turn);
-    put_word(line, at, b"\n")
+    put_turn(line, at, turn)
 }
 
-// The line for one access or event.
-pub(crate) fn print_reply(reply: Reply) {
+// The line for one access or event, given to `before`.
+pub(crate) fn print_reply(before: Controller, kind: u8, place: u8, value: u8, reply: Reply) {
     let mut line = [0u8; 128];
     let answer = reply.answer;
     let c = reply.controller;
-    let at = put_field(&mut line, 0, b"refused ", answer.refused());
+    let refused = answer.refused();
+    let at = put_field(&mut line, 0, b"refused ", refused);
     let at = put_byte(&mut line, at, b" value ", answer.value());
     let at = put_word(&mut line, at, b" ");
-    let end = put_state(&mut line, at, c);
+    let at = put_state(&mut line, at, c);
+    let at = put_call(&mut line, at, before, kind, place, value, refused);
+    let end = put_word(&mut line, at, b"\n");
     print(&line, end);
 }
 
 // The line for the record after a job.
 pub(crate) fn print_state(c: Controller) {
     let mut line = [0u8; 128];
-    let end = put_state(&mut line, 0, c);
+    let at = put_state(&mut line, 0, c);
+    let end = put_word(&mut line, at, b"\n");
     print(&line, end);
 }
 

@@ -25,7 +25,7 @@ fn work_group(c: Controller, group: &[u8]) -> Controller {
         return work_job(c, group);
     }
     let reply = access(c, group[0], group[1], group[2]);
-    print_reply(reply);
+    print_reply(c, group[0], group[1], group[2], reply);
     reply.controller
 }
 

@@ -1,2 +1,3 @@
 -- What the programs print.
 pub mod JobText
+pub mod WardLog

@@ -1,4 +1,5 @@
-// The text of a job, which both programs print.
+// What the programs print of a job, and of an address byte.
 mod handed;
 pub mod report;
 pub mod tell;
+pub mod ward_log;

@@ -4,6 +4,7 @@ use mathlib.Core.List.{[], _∷_}
 use Prim.Native.Nat.{ℕ}
 use lib.Dec.{ltb}
 use Rattle.address.specs.Matching.{matchOf}
+use Rattle.address.specs.declared.matching.AddressMatch.{AddressMatch}
 use Rattle.address.specs.declared.matching.Match.the-variants.{Own, General, Nothing}
 use Rattle.address.specs.declared.matching.Match.{Match}
 use Rattle.address.specs.declared.number.Direction.the-variants.{Write, Read}
@@ -53,9 +54,13 @@ ownStop c =
     if waits (c .turn) (stopping ∷ []) then waitsFor (withControl c (withoutStop (c .control))) Free 0
     else refuses c 8
 
--- what an address byte is to this controller
+-- what the match answers for this controller and a byte on the bus
+abbrev pub matchAddress : Controller → ℕ → AddressMatch
+matchAddress c byte = matchOf (c .registers .own) (c .control .aa) (record { 0 = byte })
+
+-- what the byte calls, by which events 5 and 8 go
 abbrev pub matches : Controller → ℕ → Match
-matches c byte = matchOf (c .registers .own) (c .control .aa) (record { 0 = byte })
+matches c byte = matchAddress c byte .kind
 
 -- 5. the codes: D0h, 60h, "or A8h for R 1. Else Busy. The three codes mean ACK" (value 0; no match is a NACK, value 1)
 unfoldable pub addressed : Controller → Match → Outcome

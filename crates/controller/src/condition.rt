@@ -1,6 +1,7 @@
 // Bus conditions and address bytes: events 1 to 5 and 8 to 13.
 use crate::effect::EventEffect;
 use crate::record::Controller;
+use address::matching::AddressMatch;
 use address::matching::Match;
 use address::matching::match_address;
 use address::number::AddressByte;
@@ -10,7 +11,7 @@ use control::turn::Edge;
 use control::turn::Turn;
 ghost use mathlib.Core.Path.{_≡_};
 ghost use Rattle.controller.specs.Effect.{afterEvent};
-ghost use Rattle.controller.specs.Condition.{ownStart, otherStart, otherStop, ownStop, matches, addressed, addressByte};
+ghost use Rattle.controller.specs.Condition.{ownStart, otherStart, otherStop, ownStop, matchAddress, matches, addressed, addressByte};
 ghost use Rattle.controller.specs.Condition.{outbid, addressLost, dataLost, illegalEdge, dataHeld, clockHeld, idle};
 
 impl Controller {
@@ -68,11 +69,19 @@ impl Controller {
         }
     }
 
+    // What the match answers for a byte on the bus: what it calls, and its address. (For a ward log; events 5 and 8 go by it.)
+    pub fn match_address(self, byte: u8) -> AddressMatch
+        ensures { λ r. ⌜ r ≡ matchAddress self byte ⌝ }
+    {
+        match_address(self.registers.own, self.control.aa, AddressByte(byte))
+    }
+
     // What an address byte is to this controller.
     fn match_byte(self, byte: u8) -> Match
         ensures { λ r. ⌜ r ≡ matches self byte ⌝ }
     {
-        match_address(self.registers.own, self.control.aa, AddressByte(byte))
+        let found = self.match_address(byte);
+        found.kind
     }
 
     // 5. The status by what the address byte matched.

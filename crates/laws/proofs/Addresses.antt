@@ -1,18 +1,20 @@
--- Address and address byte lead back to each other, and AA 0 answers to no byte. Assumes nothing.
-use mathlib.Core.Bool.{false}
-use mathlib.Core.Path.{_≡_, refl, ap}
-use Prim.Native.Nat.{ℕ, _<_, _+_, _*_, _%_}
+-- Address and address byte lead back to each other, AA 0 answers to no byte, and the match tells the byte's address. Assumes nothing.
+use mathlib.Core.Bool.{Bool, true, false}
+use mathlib.Core.Path.{_≡_, refl, ap, subst}
+use Prim.Native.Nat.{ℕ, zero, suc, _<_, _+_, _*_, _/_, _%_}
 use native.Mathlib.Omega.{arith}
-use borrow.Author.Tests.{eq-eqb, ne-eqb}
-use lib.Dec.{eqb}
-use Rattle.address.specs.Matching.{matchOf}
+use borrow.Author.Tests.{eq-eqb, ne-eqb, eqb-true}
+use lib.Dec.{eqb, ltb}
+use Rattle.address.specs.Matching.{ownAddress, callsAll, callsOwn, kindOf, matchOf}
 use Rattle.address.specs.Number.{bitOf, byteOf, addressOf, directionOf}
-use Rattle.address.specs.declared.matching.Match.the-variants.{Nothing}
+use Rattle.address.specs.declared.matching.Match.the-variants.{Own, General, Nothing}
+use Rattle.address.specs.declared.matching.Match.{Match}
 use Rattle.address.specs.declared.number.Address.{Address}
 use Rattle.address.specs.declared.number.AddressByte.{AddressByte}
 use Rattle.address.specs.declared.number.Direction.the-variants.{Write, Read}
 use Rattle.address.specs.declared.number.Direction.{Direction}
-use Rattle.notation.proofs.Cases.{if-true, if-false}
+use Rattle.laws.specs.Addresses.{ByteBack, Tells, MatchTells}
+use Rattle.notation.proofs.Cases.{if-true, if-false, and-right}
 use Rattle.notation.specs.Choice.{if_then_else_, _and_}
 
 -- the address of an address byte is the address it was made of
@@ -31,7 +33,53 @@ direction-back a Read =
     let bit = (2 * (a .0 % 128) + 1) % 2 in
     if-true (eqb bit 1) Read Write (eq-eqb bit 1 (omega arith))
 
+-- R is the bit of the direction
+bit-back : (r : ℕ) → r < 2 → bitOf (if eqb r 1 then Read else Write) ≡ r
+unfolding bitOf if_then_else_
+bit-back zero h = refl
+bit-back (suc zero) h = refl
+bit-back (suc (suc r)) h = absurd (omega (arith, h))
+
+pub byte-back : ByteBack
+unfolding byteOf addressOf directionOf
+byte-back byte h =
+    ap {B = AddressByte} (λ (n : ℕ). record { 0 = n }) (omega (arith, h, bit-back (byte .0 % 2) (omega arith)))
+
 -- with AA 0 nothing matches, General Call neither
-pub silent-without-aa : (i2cadr : ℕ) (byte : AddressByte) → matchOf i2cadr false byte ≡ Nothing
-unfolding matchOf if_then_else_ _and_
+pub silent-without-aa : (i2cadr : ℕ) (byte : AddressByte) → matchOf i2cadr false byte .kind ≡ Nothing
+unfolding kindOf matchOf if_then_else_ _and_
 silent-without-aa i2cadr byte = refl
+
+-- what a kind says of the definition's two tests and of the direction
+Says : Match → (all own : Bool) → Direction → Type 0
+Says General all own r = all ≡ true
+Says (Own d) all own r = (own ≡ true) × (r ≡ d)
+Says Nothing all own r = Unit {0}
+
+says : (all own : Bool) (r : Direction) → Says (if all then General else if own then Own r else Nothing) all own r
+unfolding if_then_else_ Says
+says true own r = refl
+says false true r = (refl, refl)
+says false false r = tt
+
+own-address : (i2cadr : ℕ) (aa : Bool) (byte : AddressByte) → (aa and callsOwn i2cadr byte) ≡ true → addressOf byte ≡ ownAddress i2cadr
+unfolding callsOwn addressOf
+own-address i2cadr aa byte t =
+    ap {B = Address} (λ (n : ℕ). record { 0 = n }) (eqb-true _ _ (and-right (ltb 0 (i2cadr / 2)) _ (and-right aa _ t)))
+
+general-address : (i2cadr : ℕ) (aa : Bool) (byte : AddressByte) → (aa and callsAll i2cadr byte) ≡ true → addressOf byte ≡ record { 0 = 0 }
+unfolding callsAll addressOf
+general-address i2cadr aa byte t =
+    ap {B = Address} (λ (n : ℕ). record { 0 = n / 2 }) (eqb-true _ _ (and-right (eqb (i2cadr % 2) 1) _ (and-right aa _ t)))
+
+pub match-tells : MatchTells
+unfolding matchOf kindOf Says
+match-tells i2cadr aa byte = record {
+  address = refl;
+  own = λ d e. own-address i2cadr aa byte (said e .0);
+  direction = λ d e. said e .1;
+  general = λ e. general-address i2cadr aa byte (said e);
+}
+  where
+    said : {m : Match} → kindOf i2cadr aa byte ≡ m → Says m (aa and callsAll i2cadr byte) (aa and callsOwn i2cadr byte) (directionOf byte)
+    said e = subst (λ (m : Match). Says m (aa and callsAll i2cadr byte) (aa and callsOwn i2cadr byte) (directionOf byte)) e (says _ _ _)

@@ -2,14 +2,29 @@
 //! byte = 2 x address + R, with R 1 for a read.
 
 /// A seven-bit bus address.
-#[derive(Clone, Copy, Debug, PartialEq, Eq)]
-pub(crate) struct Address(u8);
+#[derive(Clone, Copy, Debug, PartialEq, Eq, Hash)]
+pub struct Address(u8);
 
 /// An address byte as it goes over the bus.
 #[derive(Clone, Copy, Debug, PartialEq, Eq)]
 pub(crate) struct AddressByte(u8);
 
+/// The direction that R of an address byte gives, as the master sees it.
+#[derive(Clone, Copy, Debug, PartialEq, Eq, Hash)]
+pub enum Direction {
+    /// R 0: the master writes.
+    Write,
+    /// R 1: the master reads.
+    Read,
+}
+
 impl Address {
+    /// The address as a number, 00h..7Fh.
+    #[inline]
+    pub const fn number(self) -> u8 {
+        self.0
+    }
+
     /// The address `number`, if it has seven bits.
     pub(crate) const fn new(number: u8) -> Option<Self> {
         if number < 0x80 {
@@ -57,5 +72,14 @@ impl AddressByte {
     /// Whether R is 1.
     pub(crate) const fn is_read(self) -> bool {
         self.0 & 1 != 0
+    }
+
+    /// The direction, by R.
+    pub(crate) const fn direction(self) -> Direction {
+        if self.is_read() {
+            Direction::Read
+        } else {
+            Direction::Write
+        }
     }
 }

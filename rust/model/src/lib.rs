@@ -3,17 +3,22 @@
 //!
 //! [`Controller`] takes register accesses and bus events and changes its
 //! record in place; a refused access or event leaves the whole record as it
-//! was. [`run_job`] runs one [`Job`] over a script of (event, argument) pairs.
+//! was. [`Controller::called_by`] tells what an address byte calls, and by
+//! which address. [`run_job`] runs one [`Job`] over a script of (event,
+//! argument) pairs.
 
 #![forbid(unsafe_code)]
 #![warn(missing_docs)]
 
 mod address;
+mod call;
 mod controller;
 mod driver;
 mod refusal;
 mod turn;
 
+pub use address::{Address, Direction};
+pub use call::{AddressMatch, Call};
 pub use controller::{Controller, PLACES};
 pub use driver::{Answer, Job, Kind, OUT_LENGTH, Report, run_job};
 pub use refusal::Refusal;

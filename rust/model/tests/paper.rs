@@ -1,7 +1,10 @@
 //! The cases a to m, the printed example, and checks of each refusal, each
 //! I2CCON rule and each event.
 
-use model::{Answer, Called, Controller, Edge, Job, Kind, Refusal, Report, Turn, run_job};
+use model::{
+    AddressMatch, Answer, Call, Called, Controller, Direction, Edge, Job, Kind, Refusal, Report,
+    Turn, run_job,
+};
 
 const AA: u8 = 0x80;
 const ENSIO: u8 = 0x40;
@@ -81,6 +84,15 @@ fn listening(general: bool) -> Controller {
     write(&mut c, 3, ENSIO | AA);
     assert_eq!(take(&mut c, 2, 0), 0);
     assert_eq!(c.turn(), Turn::Listen);
+    c
+}
+
+/// In Listen with this I2CADR and AA.
+fn listening_as(own: u8, aa: u8) -> Controller {
+    let mut c = enabled();
+    set(&mut c, 1, own);
+    write(&mut c, 3, ENSIO | aa);
+    take(&mut c, 2, 0);
     c
 }
 
@@ -929,12 +941,9 @@ fn event_4() {
 
 #[test]
 fn event_5_and_8_matching() {
-    for own in [0x00, 0x01, 0x02, 0x03, 0x60, 0x61, 0xE0, 0xFE, 0xFF] {
+    for own in 0..=255 {
         for aa in [0, AA] {
-            let mut listen = enabled();
-            set(&mut listen, 1, own);
-            write(&mut listen, 3, ENSIO | aa);
-            take(&mut listen, 2, 0);
+            let listen = listening_as(own, aa);
             let mut lost = started();
             set(&mut lost, 1, own);
             write(&mut lost, 1, 0xFF);
@@ -972,6 +981,59 @@ fn event_5_and_8_matching() {
                 assert_eq!(c.status(), called.map_or(0x38, |(_, status)| status));
             }
         }
+    }
+}
+
+#[test]
+fn match_tells_call_and_address() {
+    let [mut written, mut read, mut general, mut none] = [0; 4];
+    for own in 0..=255u8 {
+        for aa in [0, AA] {
+            let c = listening_as(own, aa);
+            for byte in 0..=255u8 {
+                let AddressMatch { call, address } = c.called_by(byte);
+                let address = address.number();
+                assert_eq!(address, byte >> 1);
+                match call {
+                    Call::Own(direction) => {
+                        assert_eq!((aa, address), (AA, own >> 1));
+                        assert_ne!(address, 0);
+                        let (r, seen) = match direction {
+                            Direction::Write => (0, &mut written),
+                            Direction::Read => (1, &mut read),
+                        };
+                        assert_eq!(2 * address + r, byte);
+                        *seen += 1;
+                    }
+                    Call::General => {
+                        assert_eq!((aa, own & 1, byte, address), (AA, 1, 0x00, 0));
+                        general += 1;
+                    }
+                    Call::None => none += 1,
+                }
+            }
+        }
+    }
+    // With AA 1: each I2CADR but 00h and 01h has one byte to write to it and
+    // one to read from it, and each with GC 1 has the byte 00h.
+    assert_eq!((written, read, general), (254, 254, 128));
+    assert_eq!(none, 2 * 256 * 256 - 254 - 254 - 128);
+}
+
+#[test]
+fn match_of_one_record() {
+    let c = listening_as(0xE1, AA);
+    for (byte, call, address) in [
+        (0xE0, Call::Own(Direction::Write), 0x70),
+        (0xE1, Call::Own(Direction::Read), 0x70),
+        (0x00, Call::General, 0x00),
+        (0x01, Call::None, 0x00),
+        (0xDF, Call::None, 0x6F),
+        (0xE2, Call::None, 0x71),
+        (0xFF, Call::None, 0x7F),
+    ] {
+        let matched = c.called_by(byte);
+        assert_eq!((matched.call, matched.address.number()), (call, address));
     }
 }
 

@@ -1,7 +1,8 @@
 //! "Events".
 
 use super::{Controller, bit};
-use crate::address::AddressByte;
+use crate::address::{AddressByte, Direction};
+use crate::call::{AddressMatch, Call};
 use crate::refusal::Refusal;
 use crate::turn::{Called, Edge, Turn};
 
@@ -9,14 +10,6 @@ use crate::turn::{Called, Edge, Turn};
 const ACK: u8 = 0;
 /// The value of an answer that tells NACK.
 const NACK: u8 = 1;
-
-/// How an address byte calls this controller.
-#[derive(Clone, Copy)]
-enum Call {
-    General,
-    OwnWrite,
-    OwnRead,
-}
 
 impl Controller {
     /// Takes a bus event, 1 to 14, with its argument. The value is the byte
@@ -33,7 +26,7 @@ impl Controller {
             2 => self.other_start(),
             3 => self.other_stop(),
             4 => self.own_stop(),
-            5 => self.address_in(AddressByte::new(argument)),
+            5 => self.address_in(argument),
             6 => self.byte_out(argument == NACK),
             7 => self.byte_in(argument),
             8 => self.lost_in_address(argument),
@@ -97,15 +90,15 @@ impl Controller {
     }
 
     /// Event 5.
-    fn address_in(&mut self, byte: AddressByte) -> Result<u8, Refusal> {
+    fn address_in(&mut self, byte: u8) -> Result<u8, Refusal> {
         if self.turn != Turn::Listen {
             return Err(Refusal::NotExpected);
         }
-        match self.called_by(byte) {
-            Some(Call::General) => self.give(0xD0),
-            Some(Call::OwnWrite) => self.give(0x60),
-            Some(Call::OwnRead) => self.give(0xA8),
-            None => {
+        match self.called_by(byte).call {
+            Call::General => self.give(0xD0),
+            Call::Own(Direction::Write) => self.give(0x60),
+            Call::Own(Direction::Read) => self.give(0xA8),
+            Call::None => {
                 self.turn = Turn::Busy;
                 return Ok(NACK);
             }
@@ -191,11 +184,11 @@ impl Controller {
         if self.turn != Turn::Address || winner >= self.buffer[0] {
             return Err(Refusal::NotExpected);
         }
-        match self.called_by(AddressByte::new(winner)) {
-            Some(Call::General) => self.give(0xD8),
-            Some(Call::OwnWrite) => self.give(0x68),
-            Some(Call::OwnRead) => self.give(0xB0),
-            None => {
+        match self.called_by(winner).call {
+            Call::General => self.give(0xD8),
+            Call::Own(Direction::Write) => self.give(0x68),
+            Call::Own(Direction::Read) => self.give(0xB0),
+            Call::None => {
                 self.give(0x38);
                 return Ok(NACK);
             }
@@ -253,21 +246,32 @@ impl Controller {
         Ok(0)
     }
 
-    /// How the address byte calls this controller, for events 5 and 8.
-    fn called_by(&self, byte: AddressByte) -> Option<Call> {
-        if !self.has(bit::AA) {
-            return None;
+    /// What the address byte calls, as events 5 and 8 match it, and the
+    /// byte's address.
+    ///
+    /// Only AA and I2CADR are looked at, and both events keep them: a log of
+    /// an accepted event can ask before it or right after it. The match
+    /// alone doesn't tell whether the event is expected.
+    pub fn called_by(&self, byte: u8) -> AddressMatch {
+        let byte = AddressByte::new(byte);
+        AddressMatch {
+            call: self.call_of(byte),
+            address: byte.address(),
         }
-        if byte == AddressByte::GENERAL_CALL && self.answers_general_call() {
-            return Some(Call::General);
-        }
+    }
+
+    /// "Byte 00h with AA and GC", else "AA 1, I2CADR's address not zero and
+    /// equal to the byte's upper seven bits", else none.
+    fn call_of(&self, byte: AddressByte) -> Call {
         let own = self.own_address();
-        if own.is_zero() || own != byte.address() {
-            None
-        } else if byte.is_read() {
-            Some(Call::OwnRead)
+        if !self.has(bit::AA) {
+            Call::None
+        } else if byte == AddressByte::GENERAL_CALL && self.answers_general_call() {
+            Call::General
+        } else if !own.is_zero() && own == byte.address() {
+            Call::Own(byte.direction())
         } else {
-            Some(Call::OwnWrite)
+            Call::None
         }
     }
 }

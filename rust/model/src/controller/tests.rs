@@ -1,6 +1,9 @@
-//! Soundness and refusal 10, which need records that no access leads to.
+//! Soundness and refusal 10, which need records that no access leads to, and
+//! the whole record after the match of events 5 and 8.
 
-use super::Controller;
+use super::{Controller, bit};
+use crate::address::Direction;
+use crate::call::Call;
 use crate::refusal::Refusal;
 use crate::turn::{Called, Edge, Turn};
 
@@ -100,4 +103,113 @@ fn sound_moves() {
     c.turn = host(0x28);
     c.moved = 68;
     assert!(c.is_sound());
+}
+
+/// Every I2CADR, each with AA 0 and AA 1.
+fn own_and_aa() -> impl Iterator<Item = (u8, u8)> {
+    (0..=255).flat_map(|own| [0, bit::AA].map(|aa| (own, aa)))
+}
+
+/// An enabled record in this turn, the hand place not at 0.
+fn matching(turn: Turn, own: u8, aa: u8) -> Controller {
+    let mut c = Controller::fresh();
+    c.turn = turn;
+    c.con = bit::ENSIO | aa;
+    c.own = own;
+    c.hand = 5;
+    c
+}
+
+#[test]
+fn match_looks_at_aa_and_i2cadr_alone() {
+    let mut records = unsound_records();
+    records.extend([Turn::Off, Turn::Free, Turn::Address].map(|turn| {
+        let mut record = Controller::fresh();
+        record.turn = turn;
+        record.con = bit::ENSIO | bit::STA | bit::STO | bit::MODE;
+        record
+    }));
+    for mut c in records {
+        for (own, aa) in own_and_aa() {
+            c.own = own;
+            c.con = c.con & !bit::AA | aa;
+            let listening = matching(Turn::Listen, own, aa);
+            for byte in 0..=255 {
+                assert_eq!(c.called_by(byte), listening.called_by(byte));
+            }
+        }
+    }
+}
+
+#[test]
+fn event_5_by_the_match() {
+    for (own, aa) in own_and_aa() {
+        let before = matching(Turn::Listen, own, aa);
+        for byte in 0..=255 {
+            let matched = before.called_by(byte);
+            // SI becomes 1 for the three codes, so the hand place goes to 0.
+            let (turn, hand, value) = match matched.call {
+                Call::General => (host(0xD0), 0, 0),
+                Call::Own(Direction::Write) => (host(0x60), 0, 0),
+                Call::Own(Direction::Read) => (host(0xA8), 0, 0),
+                Call::None => (Turn::Busy, 5, 1),
+            };
+            let mut after = before.clone();
+            (after.turn, after.hand) = (turn, hand);
+            let mut c = before.clone();
+            assert_eq!(c.event(5, byte), Ok(value));
+            assert_eq!(c, after);
+            assert_eq!(c.called_by(byte), matched);
+        }
+    }
+}
+
+/// Event 8 with our byte in place 0, against the match.
+fn check_event_8(before: &Controller, winner: u8) {
+    let mut c = before.clone();
+    if winner >= before.buffer[0] {
+        assert_eq!(c.event(8, winner), Err(Refusal::NotExpected));
+        assert_eq!(c, *before);
+        return;
+    }
+    let matched = before.called_by(winner);
+    let (status, value) = match matched.call {
+        Call::General => (0xD8, 0),
+        Call::Own(Direction::Write) => (0x68, 0),
+        Call::Own(Direction::Read) => (0xB0, 0),
+        Call::None => (0x38, 1),
+    };
+    let mut after = before.clone();
+    after.turn = host(status);
+    after.hand = 0;
+    assert_eq!(c.event(8, winner), Ok(value));
+    assert_eq!(c, after);
+    assert_eq!(c.called_by(winner), matched);
+}
+
+#[test]
+fn event_8_by_the_match() {
+    for (own, aa) in own_and_aa() {
+        let mut c = matching(Turn::Address, own, aa);
+        for winner in 0..=255u8 {
+            // The outermost bytes that don't lose to it, and that do.
+            for ours in [0x00, winner, winner.saturating_add(1), 0xFF] {
+                c.buffer[0] = ours;
+                check_event_8(&c, winner);
+            }
+        }
+    }
+}
+
+#[test]
+fn event_8_by_the_match_for_each_byte_of_ours() {
+    for own in [0xE0, 0xE1] {
+        let mut c = matching(Turn::Address, own, bit::AA);
+        for ours in 0..=255 {
+            c.buffer[0] = ours;
+            for winner in 0..=255 {
+                check_event_8(&c, winner);
+            }
+        }
+    }
 }

@@ -1,0 +1,12 @@
+-- `match_byte` is `matches`: the kind of the match.
+use mathlib.Core.Path.{ap}
+use borrow.Author.Needs.{needs}
+use Rattle.address.specs.declared.matching.AddressMatch.{AddressMatch}
+use Rattle.controller.proofs.record.Controller.match_byte.Statement.{statement}
+use Rattle.controller.proofs.record.Controller.match_byte.Tie as tie
+
+returns : tie.Need-returns
+returns c = ap (λ (m : AddressMatch). m .kind) (c .match-address .ensures)
+
+pub match-byte-spec : {M : Type 1} → statement M
+match-byte-spec = tie.close (tie.spec (λ c κs. search needs) returns)
