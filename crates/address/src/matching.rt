@@ -13,7 +13,7 @@ pub enum Match {
     Nothing,
 }
 
-// What the match answers: what was called and, in every case, the byte's own address.
+// What the match answers: what was called and, in every case, the seven-bit address of the byte.
 pub struct AddressMatch {
     pub kind: Match,
     pub address: Address,

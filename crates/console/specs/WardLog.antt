@@ -1,4 +1,4 @@
--- Document 02, request 5: what the ward log says of an address byte. Its words, as the bytes of their letters:
+-- Document 02, request 5: what the ward log says of an address byte.
 use mathlib.Core.Bool.{Bool}
 use mathlib.Core.List.{List, [], _∷_, _++_}
 use Prim.Native.Nat.{ℕ}
@@ -12,6 +12,7 @@ use Rattle.controller.specs.declared.record.Controller.{Controller}
 use Rattle.notation.specs.Choice.{if_then_else_, _and_, _or_}
 use Rattle.text.specs.Text.{hexOf}
 
+-- The words, as the bytes of their letters.
 -- " called "
 abbrev pub calledWord : List ℕ
 calledWord = 32 ∷ 99 ∷ 97 ∷ 108 ∷ 108 ∷ 101 ∷ 100 ∷ 32 ∷ []
@@ -27,10 +28,10 @@ kindWord Nothing = 110 ∷ 111 ∷ 110 ∷ 101 ∷ 32 ∷ []
 unfoldable pub matchText : AddressMatch → List ℕ
 matchText m = calledWord ++ (kindWord (m .kind) ++ hexOf (m .address .0))
 
--- a group of a trace, of kind 2 for an event, that brought an address byte: event 5 or 8, and accepted
-unfoldable pub bringsAddress : (kind place refused : ℕ) → Bool
-bringsAddress kind place refused = (eqb kind 2 and (eqb place 5 or eqb place 8)) and eqb refused 0
+-- A group of a trace that brought an address byte: an event (group 02), 5 or 8, that was accepted.
+unfoldable pub bringsAddress : (group place refused : ℕ) → Bool
+bringsAddress group place refused = (eqb group 2 and (eqb place 5 or eqb place 8)) and eqb refused 0
 
--- what the group's line ends with; the match is that of the record which the event was given to
-unfoldable pub callText : Controller → (kind place value refused : ℕ) → List ℕ
-callText c kind place value refused = if bringsAddress kind place refused then matchText (matchAddress c value) else []
+-- What its line ends with: the match is that of the record which the event was given to. Nothing is added to any other line.
+unfoldable pub callText : Controller → (group place value refused : ℕ) → List ℕ
+callText c group place value refused = if bringsAddress group place refused then matchText (matchAddress c value) else []

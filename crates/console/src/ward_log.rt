@@ -33,20 +33,20 @@ fn put_match(text: &mut [u8], at: usize, found: AddressMatch) -> usize
     put_hex(text, next, address.0)
 }
 
-// What the line of a trace's group ends with: of an accepted event 5 or 8 what the byte called, of any other nothing. `c` is the record that
-// the group was given to.
+// What the line of a trace's group ends with: of an accepted event 5 or 8 what the byte called, of any other nothing. `group` is 2 for an
+// event; `c` is the record that it was given to.
 pub fn put_call(
     text: &mut [u8],
     at: usize,
     c: Controller,
-    kind: u8,
+    group: u8,
     place: u8,
     value: u8,
     refused: u8,
 ) -> usize
-    ensures { λ r. ⌜ Holds at (callText c kind place value refused) (now (text .entry)) (now (text .exit)) r ⌝ }
+    ensures { λ r. ⌜ Holds at (callText c group place value refused) (now (text .entry)) (now (text .exit)) r ⌝ }
 {
-    let brings = (kind == 2) & ((place == 5) | (place == 8)) & (refused == 0);
+    let brings = (group == 2) & ((place == 5) | (place == 8)) & (refused == 0);
     if brings {
         let found = c.match_address(value);
         put_match(text, at, found)

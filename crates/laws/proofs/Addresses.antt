@@ -50,36 +50,38 @@ pub silent-without-aa : (i2cadr : ℕ) (byte : AddressByte) → matchOf i2cadr f
 unfolding kindOf matchOf if_then_else_ _and_
 silent-without-aa i2cadr byte = refl
 
--- what a kind says of the definition's two tests and of the direction
-Says : Match → (all own : Bool) → Direction → Type 0
-Says General all own r = all ≡ true
-Says (Own d) all own r = (own ≡ true) × (r ≡ d)
-Says Nothing all own r = Unit {0}
+module _ (i2cadr : ℕ) (aa : Bool) (byte : AddressByte) where
+  own-address : (aa and callsOwn i2cadr byte) ≡ true → addressOf byte ≡ ownAddress i2cadr
+  unfolding callsOwn addressOf
+  own-address t = ap {B = Address} (λ (n : ℕ). record { 0 = n }) (eqb-true _ _ (and-right (ltb 0 (i2cadr / 2)) _ (and-right aa _ t)))
 
-says : (all own : Bool) (r : Direction) → Says (if all then General else if own then Own r else Nothing) all own r
-unfolding if_then_else_ Says
-says true own r = refl
-says false true r = (refl, refl)
-says false false r = tt
+  general-address : (aa and callsAll i2cadr byte) ≡ true → addressOf byte ≡ record { 0 = 0 }
+  unfolding callsAll addressOf
+  general-address t = ap {B = Address} (λ (n : ℕ). record { 0 = n / 2 }) (eqb-true _ _ (and-right (eqb (i2cadr % 2) 1) _ (and-right aa _ t)))
 
-own-address : (i2cadr : ℕ) (aa : Bool) (byte : AddressByte) → (aa and callsOwn i2cadr byte) ≡ true → addressOf byte ≡ ownAddress i2cadr
-unfolding callsOwn addressOf
-own-address i2cadr aa byte t =
-    ap {B = Address} (λ (n : ℕ). record { 0 = n }) (eqb-true _ _ (and-right (ltb 0 (i2cadr / 2)) _ (and-right aa _ t)))
+  -- what each kind says of the byte
+  Says : Match → Type 0
+  Says General = addressOf byte ≡ record { 0 = 0 }
+  Says (Own d) = (addressOf byte ≡ ownAddress i2cadr) × (directionOf byte ≡ d)
+  Says Nothing = Unit {0}
 
-general-address : (i2cadr : ℕ) (aa : Bool) (byte : AddressByte) → (aa and callsAll i2cadr byte) ≡ true → addressOf byte ≡ record { 0 = 0 }
-unfolding callsAll addressOf
-general-address i2cadr aa byte t =
-    ap {B = Address} (λ (n : ℕ). record { 0 = n / 2 }) (eqb-true _ _ (and-right (eqb (i2cadr % 2) 1) _ (and-right aa _ t)))
+  -- the kind that the definition's two tests choose
+  says : (all own : Bool) → (all ≡ true → Says General) → (own ≡ true → addressOf byte ≡ ownAddress i2cadr) →
+      Says (if all then General else if own then Own (directionOf byte) else Nothing)
+  unfolding if_then_else_ Says
+  says true own f g = f refl
+  says false true f g = (g refl, refl)
+  says false false f g = tt
+
+  told : {m : Match} → kindOf i2cadr aa byte ≡ m → Says m
+  unfolding kindOf Says
+  told e = subst Says e (says _ _ general-address own-address)
 
 pub match-tells : MatchTells
-unfolding matchOf kindOf Says
+unfolding matchOf Says
 match-tells i2cadr aa byte = record {
   address = refl;
-  own = λ d e. own-address i2cadr aa byte (said e .0);
-  direction = λ d e. said e .1;
-  general = λ e. general-address i2cadr aa byte (said e);
+  own = λ d e. told i2cadr aa byte e .0;
+  direction = λ d e. told i2cadr aa byte e .1;
+  general = told i2cadr aa byte;
 }
-  where
-    said : {m : Match} → kindOf i2cadr aa byte ≡ m → Says m (aa and callsAll i2cadr byte) (aa and callsOwn i2cadr byte) (directionOf byte)
-    said e = subst (λ (m : Match). Says m (aa and callsAll i2cadr byte) (aa and callsOwn i2cadr byte) (directionOf byte)) e (says _ _ _)
