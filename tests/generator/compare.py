@@ -25,8 +25,8 @@ BYTES = (0x00, 0x01, 0xA0, 0xA1, 0xE0, 0xE1)
 ADDRESSES = (0xE0, 0xE1, 0xA1, 0x00, 0x01)      # I2CADR
 ANSWERS = {0} | set(range(21, 30))       # Jobs: every answer
 # Ask 5: whom events 5 and 8 call, each with the status it gives
-CALLS = {"60 own write", "A8 own read", "D0 general", "F8 none",
-         "68 own write", "B0 own read", "D8 general", "38 none"}
+WANTED_CALLS = {"60 own write", "A8 own read", "D0 general", "F8 none",
+                "68 own write", "B0 own read", "D8 general", "38 none"}
 
 
 def some(draw, likely):
@@ -173,7 +173,8 @@ def main(args):
     traces = (trace(seed) for seed in range(count))
     inputs = (job_input(random.Random(seed)) for seed in range(INPUTS))
     print(f"{count} traces of {GROUPS} random groups, {INPUTS} random jobs")
-    fine = compare(args[0], traces, bench.run, "random trace", ANSWERS, CALLS)
+    fine = compare(args[0], traces, bench.run, "random trace", ANSWERS,
+                   WANTED_CALLS)
     # `job` runs on a fresh controller: never 22, and tells of no call
     fine = fine and compare(args[1], inputs, driver.job_program,
                             "random job", ANSWERS - {22}, set())

@@ -372,6 +372,9 @@ class Match:
     direction: str       # of own: write, read
     address: int
 
+    def way(self):
+        return self.direction or self.kind
+
     def words(self):
         return (self.kind + " " + self.direction).rstrip()
 
@@ -392,8 +395,7 @@ def address_byte(c, found):
     if found.kind == "none":
         c.turn = Turn("Busy")
         return 1
-    codes = {"general": 0xD0, "own write": 0x60, "own read": 0xA8}
-    give(c, codes[found.words()])
+    give(c, {"general": 0xD0, "write": 0x60, "read": 0xA8}[found.way()])
     return 0
 
 
@@ -402,8 +404,7 @@ def arbitration_lost(c, found):
     if found.kind == "none":
         give(c, 0x38)
         return 1
-    codes = {"general": 0xD8, "own write": 0x68, "own read": 0xB0}
-    give(c, codes[found.words()])
+    give(c, {"general": 0xD8, "write": 0x68, "read": 0xB0}[found.way()])
     return 0
 
 

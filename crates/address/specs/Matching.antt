@@ -1,4 +1,4 @@
--- Which address byte the controller answers to (document 01, Events, 5). I2CADR has the own address in bits 7..1 and GC in bit 0.
+-- Which address byte the controller answers to (document 01, Events, 5 and 8). I2CADR has the own address in bits 7..1 and GC in bit 0.
 use mathlib.Core.Bool.{Bool}
 use Prim.Native.Nat.{ℕ, _%_}
 use lib.Dec.{eqb, ltb}
@@ -22,13 +22,13 @@ ownAddress i2cadr = addressOf (record { 0 = i2cadr })
 unfoldable pub callsOwn : ℕ → AddressByte → Bool
 callsOwn i2cadr byte = ltb 0 (ownAddress i2cadr .0) and eqb (addressOf byte .0) (ownAddress i2cadr .0)
 
--- General Call, else the own address with its direction, else nothing; nothing at all with AA 0
-unfoldable pub kindOf : ℕ → Bool → AddressByte → Match
-kindOf i2cadr aa byte =
+-- what the byte calls: General Call, else the own address with its direction, else nothing; nothing at all with AA 0
+unfoldable pub callOf : ℕ → Bool → AddressByte → Match
+callOf i2cadr aa byte =
     if aa and callsAll i2cadr byte then General
     else if aa and callsOwn i2cadr byte then Own (directionOf byte)
     else Nothing
 
 -- "Let it answer own address with direction, General Call, or none, each with the byte's seven-bit address." (document 02, request 5)
 unfoldable pub matchOf : ℕ → Bool → AddressByte → AddressMatch
-matchOf i2cadr aa byte = record { kind = kindOf i2cadr aa byte; address = addressOf byte }
+matchOf i2cadr aa byte = record { call = callOf i2cadr aa byte; address = addressOf byte }

@@ -1,12 +1,12 @@
-// Which address byte a controller answers to. Three branches decide it, those of `match_kind`. What it calls has none: `&` works out both its
-// sides, where `&&` would be a branch.
+// Which address byte a controller answers to. Three branches decide it, those of `match_call`. The functions that it uses have none: `&` works
+// out both its sides, where `&&` would be a branch.
 use crate::number::Address;
 use crate::number::AddressByte;
 use crate::number::Direction;
 ghost use mathlib.Core.Path.{_≡_};
-ghost use Rattle.address.specs.Matching.{callsAll, callsOwn, kindOf, matchOf};
+ghost use Rattle.address.specs.Matching.{callsAll, callsOwn, callOf, matchOf};
 
-// What an address byte calls, as this controller takes it.
+// What an address byte calls here.
 pub enum Match {
     Own(Direction),
     General,
@@ -15,7 +15,7 @@ pub enum Match {
 
 // What the match answers: what was called and, in every case, the seven-bit address of the byte.
 pub struct AddressMatch {
-    pub kind: Match,
+    pub call: Match,
     pub address: Address,
 }
 
@@ -36,8 +36,8 @@ fn calls_own(i2cadr: u8, byte: AddressByte) -> bool
 }
 
 // What an address byte calls, for a controller with this I2CADR and AA.
-fn match_kind(i2cadr: u8, aa: bool, byte: AddressByte) -> Match
-    ensures { λ r. ⌜ r ≡ kindOf i2cadr aa byte ⌝ }
+fn match_call(i2cadr: u8, aa: bool, byte: AddressByte) -> Match
+    ensures { λ r. ⌜ r ≡ callOf i2cadr aa byte ⌝ }
 {
     if aa {
         if calls_all(i2cadr, byte) {
@@ -58,7 +58,7 @@ fn match_kind(i2cadr: u8, aa: bool, byte: AddressByte) -> Match
 pub fn match_address(i2cadr: u8, aa: bool, byte: AddressByte) -> AddressMatch
     ensures { λ r. ⌜ r ≡ matchOf i2cadr aa byte ⌝ }
 {
-    let kind = match_kind(i2cadr, aa, byte);
+    let call = match_call(i2cadr, aa, byte);
     let address = byte.address();
-    AddressMatch { kind, address }
+    AddressMatch { call, address }
 }

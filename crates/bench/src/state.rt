@@ -1,6 +1,6 @@
 // What is printed of an answer and of the record after it.
 use crate::print::print;
-use console::ward_log::put_call;
+use console::ward_log::put_ward_note;
 use control::turn::Called;
 use control::turn::Edge;
 use control::turn::Turn;
@@ -98,7 +98,7 @@ fn put_state(line: &mut [u8], at: usize, c: Controller) -> usize {
 }
 
 // The line for one access or event, given to `before`.
-pub(crate) fn print_reply(before: Controller, group: u8, place: u8, value: u8, reply: Reply) {
+pub(crate) fn print_reply(before: Controller, kind: u8, place: u8, value: u8, reply: Reply) {
     let mut line = [0u8; 128];
     let answer = reply.answer;
     let c = reply.controller;
@@ -107,7 +107,7 @@ pub(crate) fn print_reply(before: Controller, group: u8, place: u8, value: u8, r
     let at = put_byte(&mut line, at, b" value ", answer.value());
     let at = put_word(&mut line, at, b" ");
     let at = put_state(&mut line, at, c);
-    let at = put_call(&mut line, at, before, group, place, value, refused);
+    let at = put_ward_note(&mut line, at, before, kind, place, value, refused);
     let end = put_word(&mut line, at, b"\n");
     print(&line, end);
 }

@@ -1,6 +1,6 @@
 -- Each starred case shows what document 01 says: one equation over the list of them, by computing both sides. Assumes nothing.
 use mathlib.Core.Path.{refl}
-use Rattle.address.specs.Matching.{callsAll, callsOwn, kindOf, matchOf}
+use Rattle.address.specs.Matching.{callsAll, callsOwn, callOf, matchOf}
 use Rattle.address.specs.Number.{bitOf, byteOf, addressOf, directionOf}
 use Rattle.cases.specs.Starred.{StarredCases, lastShown, times}
 use Rattle.control.specs.Flags.{flagsOf, weighs, readsAs}
@@ -26,7 +26,7 @@ use Rattle.service.specs.Request.{badLength, badAddress, lent, malformed, ready
 use Rattle.service.specs.Serve.{starts, serve}
 
 pub starred : StarredCases
-unfolding if_then_else_ _and_ _or_ among callsAll callsOwn kindOf matchOf bitOf byteOf addressOf directionOf flagsOf weighs readsAs kind statusOf
+unfolding if_then_else_ _and_ _or_ among callsAll callsOwn callOf matchOf bitOf byteOf addressOf directionOf flagsOf weighs readsAs kind statusOf
     edgeOf calledOf endOr afterEdge respondsAt response indirectAt barsRead barsWrite readSound readOf writeSound writeOf ownStart
     otherStart otherStop ownStop addressed addressByte outbid addressLost dataLost illegalEdge dataHeld clockHeld idle badArgument
     eventSound eventOf keeps controlled badCount enabled writeFlags writeControl hostSound moveSound sound wrote writePointer readData

@@ -5,14 +5,14 @@ use address::number::Direction;
 use controller::record::Controller;
 use text::put::put_hex;
 use text::put::put_word;
-ghost use Rattle.console.specs.WardLog.{kindWord, matchText, callText};
+ghost use Rattle.console.specs.WardLog.{callWord, matchText, wardNote};
 ghost use Rattle.text.specs.Text.{Holds};
 
-// The kind, and the direction where there is one.
-fn put_kind(text: &mut [u8], at: usize, kind: Match) -> usize
-    ensures { λ r. ⌜ Holds at (kindWord kind) (now (text .entry)) (now (text .exit)) r ⌝ }
+// What was called, with the direction where there is one.
+fn put_call(text: &mut [u8], at: usize, call: Match) -> usize
+    ensures { λ r. ⌜ Holds at (callWord call) (now (text .entry)) (now (text .exit)) r ⌝ }
 {
-    match kind {
+    match call {
         Match::Own(direction) => match direction {
             Direction::Write => put_word(text, at, b"own write "),
             Direction::Read => put_word(text, at, b"own read "),
@@ -26,29 +26,29 @@ fn put_kind(text: &mut [u8], at: usize, kind: Match) -> usize
 fn put_match(text: &mut [u8], at: usize, found: AddressMatch) -> usize
     ensures { λ r. ⌜ Holds at (matchText found) (now (text .entry)) (now (text .exit)) r ⌝ }
 {
-    let kind = found.kind;
+    let call = found.call;
     let address = found.address;
     let next = put_word(text, at, b" called ");
-    let next = put_kind(text, next, kind);
+    let next = put_call(text, next, call);
     put_hex(text, next, address.0)
 }
 
-// What the line of a trace's group ends with: of an accepted event 5 or 8 what the byte called, of any other nothing. `group` is 2 for an
-// event; `c` is the record that it was given to.
-pub fn put_call(
+// What the ward log notes of a group of a trace, at the end of its line: of an accepted event 5 or 8 what the byte called, of any other group
+// nothing. `kind` is the group's, 2 for an event; `c` is the record that the group was given to.
+pub fn put_ward_note(
     text: &mut [u8],
     at: usize,
     c: Controller,
-    group: u8,
-    place: u8,
-    value: u8,
+    kind: u8,
+    number: u8,
+    argument: u8,
     refused: u8,
 ) -> usize
-    ensures { λ r. ⌜ Holds at (callText c group place value refused) (now (text .entry)) (now (text .exit)) r ⌝ }
+    ensures { λ r. ⌜ Holds at (wardNote c kind number argument refused) (now (text .entry)) (now (text .exit)) r ⌝ }
 {
-    let brings = (group == 2) & ((place == 5) | (place == 8)) & (refused == 0);
-    if brings {
-        let found = c.match_address(value);
+    let tells = (kind == 2) & ((number == 5) | (number == 8)) & (refused == 0);
+    if tells {
+        let found = c.match_on_bus(argument);
         put_match(text, at, found)
     } else {
         at

@@ -54,13 +54,13 @@ ownStop c =
     if waits (c .turn) (stopping ∷ []) then waitsFor (withControl c (withoutStop (c .control))) Free 0
     else refuses c 8
 
--- what the match answers for this controller and a byte on the bus
-abbrev pub matchAddress : Controller → ℕ → AddressMatch
-matchAddress c byte = matchOf (c .registers .own) (c .control .aa) (record { 0 = byte })
+-- what the match answers for an address byte on the bus: what it calls, and its address
+abbrev pub matchOnBus : Controller → ℕ → AddressMatch
+matchOnBus c byte = matchOf (c .registers .own) (c .control .aa) (record { 0 = byte })
 
 -- what the byte calls, by which events 5 and 8 go
 abbrev pub matches : Controller → ℕ → Match
-matches c byte = matchAddress c byte .kind
+matches c byte = matchOnBus c byte .call
 
 -- 5. the codes: D0h, 60h, "or A8h for R 1. Else Busy. The three codes mean ACK" (value 0; no match is a NACK, value 1)
 unfoldable pub addressed : Controller → Match → Outcome
@@ -73,7 +73,7 @@ addressed c Nothing = waitsFor c Busy 1
 unfoldable pub addressByte : Controller → ℕ → Outcome
 addressByte c byte = if waits (c .turn) (listen ∷ []) then addressed c (matches c byte) else refuses c 8
 
--- 8. the codes: "Matched as in 5 it gives 68h, B0h or D8h, else 38h"
+-- 8. the codes: "Matched as in 5 it gives 68h, B0h or D8h, else 38h" (values as in 5)
 unfoldable pub outbid : Controller → Match → Outcome
 outbid c General = gives c 0xD8 0
 outbid c (Own Write) = gives c 0x68 0

@@ -11,7 +11,7 @@ use control::turn::Edge;
 use control::turn::Turn;
 ghost use mathlib.Core.Path.{_≡_};
 ghost use Rattle.controller.specs.Effect.{afterEvent};
-ghost use Rattle.controller.specs.Condition.{ownStart, otherStart, otherStop, ownStop, matchAddress, matches, addressed, addressByte};
+ghost use Rattle.controller.specs.Condition.{ownStart, otherStart, otherStop, ownStop, matchOnBus, matches, addressed, addressByte};
 ghost use Rattle.controller.specs.Condition.{outbid, addressLost, dataLost, illegalEdge, dataHeld, clockHeld, idle};
 
 impl Controller {
@@ -69,19 +69,19 @@ impl Controller {
         }
     }
 
-    // What the match answers for a byte on the bus: what it calls, and its address. (For a ward log; events 5 and 8 go by it.)
-    pub fn match_address(self, byte: u8) -> AddressMatch
-        ensures { λ r. ⌜ r ≡ matchAddress self byte ⌝ }
+    // What the match answers for an address byte on the bus, for a ward log. Events 5 and 8 go by the same answer.
+    pub fn match_on_bus(self, byte: u8) -> AddressMatch
+        ensures { λ r. ⌜ r ≡ matchOnBus self byte ⌝ }
     {
         match_address(self.registers.own, self.control.aa, AddressByte(byte))
     }
 
-    // What an address byte is to this controller.
+    // What the byte calls.
     fn match_byte(self, byte: u8) -> Match
         ensures { λ r. ⌜ r ≡ matches self byte ⌝ }
     {
-        let found = self.match_address(byte);
-        found.kind
+        let found = self.match_on_bus(byte);
+        found.call
     }
 
     // 5. The status by what the address byte matched.

@@ -1,2 +1,2 @@
--- What is claimed of the controller.
+-- Claims about the rules, stated apart from their proofs.
 pub mod Addresses

@@ -103,7 +103,7 @@ module _ {job : Job} {payload carried : List ℕ} {sent : ℕ} {p : Progress} (g
   -- with AA 0 no address byte matches
   pub no-match : (byte : ℕ) → matches (p .controller) byte ≡ Nothing
   no-match byte =
-      ap (λ (b : Bool). matchOf (p .controller .registers .own) b (record { 0 = byte }) .kind) (g .aa) ∙ silent-without-aa _ (record { 0 = byte })
+      ap (λ (b : Bool). matchOf (p .controller .registers .own) b (record { 0 = byte }) .call) (g .aa) ∙ silent-without-aa _ (record { 0 = byte })
 
 pub regood : {job : Job} {payload l l′ : List ℕ} {n n′ : ℕ} {q : Progress} → l ≡ l′ → n ≡ n′ → Good job payload l n q →
     Good job payload l′ n′ q

@@ -16,7 +16,7 @@ pub enum Call {
 
 /// The answer of the match: what was called, and the byte's address.
 #[derive(Clone, Copy, Debug, PartialEq, Eq, Hash)]
-pub struct AddressMatch {
+pub struct Matched {
     /// What the byte calls.
     pub call: Call,
     /// The byte's upper seven bits, whatever it calls: I2CADR's address for

@@ -18,7 +18,7 @@ mod refusal;
 mod turn;
 
 pub use address::{Address, Direction};
-pub use call::{AddressMatch, Call};
+pub use call::{Call, Matched};
 pub use controller::{Controller, PLACES};
 pub use driver::{Answer, Job, Kind, OUT_LENGTH, Report, run_job};
 pub use refusal::Refusal;

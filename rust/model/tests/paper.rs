@@ -2,8 +2,8 @@
 //! I2CCON rule and each event.
 
 use model::{
-    AddressMatch, Answer, Call, Called, Controller, Direction, Edge, Job, Kind, Refusal, Report,
-    Turn, run_job,
+    Answer, Call, Called, Controller, Direction, Edge, Job, Kind, Matched, Refusal, Report, Turn,
+    run_job,
 };
 
 const AA: u8 = 0x80;
@@ -991,7 +991,7 @@ fn match_tells_call_and_address() {
         for aa in [0, AA] {
             let c = listening_as(own, aa);
             for byte in 0..=255u8 {
-                let AddressMatch { call, address } = c.called_by(byte);
+                let Matched { call, address } = c.called_by(byte);
                 let address = address.number();
                 assert_eq!(address, byte >> 1);
                 match call {

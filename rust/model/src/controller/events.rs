@@ -2,7 +2,7 @@
 
 use super::{Controller, bit};
 use crate::address::{AddressByte, Direction};
-use crate::call::{AddressMatch, Call};
+use crate::call::{Call, Matched};
 use crate::refusal::Refusal;
 use crate::turn::{Called, Edge, Turn};
 
@@ -252,9 +252,9 @@ impl Controller {
     /// Only AA and I2CADR are looked at, and both events keep them: a log of
     /// an accepted event can ask before it or right after it. The match
     /// alone doesn't tell whether the event is expected.
-    pub fn called_by(&self, byte: u8) -> AddressMatch {
+    pub fn called_by(&self, byte: u8) -> Matched {
         let byte = AddressByte::new(byte);
-        AddressMatch {
+        Matched {
             call: self.call_of(byte),
             address: byte.address(),
         }

@@ -3,7 +3,7 @@ use mathlib.Core.Bool.{Bool}
 use mathlib.Core.Path.{_≡_}
 use Prim.Native.Nat.{ℕ}
 use borrow.Author.Needs.{needs}
-use Rattle.address.specs.Matching.{kindOf, matchOf}
+use Rattle.address.specs.Matching.{callOf, matchOf}
 use Rattle.address.specs.Number.{addressOf}
 use Rattle.address.specs.declared.matching.AddressMatch.{AddressMatch}
 use Rattle.address.specs.declared.matching.Match.{Match}
@@ -12,13 +12,13 @@ use Rattle.address.specs.declared.number.AddressByte.{AddressByte}
 use Rattle.address.proofs.matching.match_address.Statement.{statement}
 use Rattle.address.proofs.matching.match_address.Tie as tie
 
-matched : (i2cadr : ℕ) (aa : Bool) (byte : AddressByte) (k : Match) (a : Address) → k ≡ kindOf i2cadr aa byte → a ≡ addressOf byte →
-    (record { kind = k; address = a }) ≡ matchOf i2cadr aa byte
+joined : (i2cadr : ℕ) (aa : Bool) (byte : AddressByte) (m : Match) (a : Address) → m ≡ callOf i2cadr aa byte → a ≡ addressOf byte →
+    (record { call = m; address = a }) ≡ matchOf i2cadr aa byte
 unfolding matchOf
-matched i2cadr aa byte k a e f = rw (e, f)
+joined i2cadr aa byte m a e f = rw (e, f)
 
 returns : tie.Need-returns
-returns c = search matched
+returns c = search joined
 
 pub match-address-spec : {M : Type 1} → statement M
 match-address-spec = tie.close (tie.spec (λ c κs. search needs) (λ c κs. search needs) returns)

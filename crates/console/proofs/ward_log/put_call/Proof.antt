@@ -1,23 +1,51 @@
--- `put_call` puts what the match answers, where the definition asks for it.
-use mathlib.Core.Path.{sym, ap, _∙_}
-use Rattle.console.specs.WardLog.{matchText, bringsAddress, callText}
-use Rattle.notation.proofs.Cases.{if-true, if-false}
-use Rattle.notation.specs.Choice.{_and_, _or_}
-use Rattle.text.proofs.Holds.{said, none}
+-- `put_call` puts the words of each call.
 use borrow.Author.Needs.{needs}
+use Rattle.console.specs.WardLog.{callWord}
 use Rattle.console.proofs.ward_log.put_call.Statement.{statement}
 use Rattle.console.proofs.ward_log.put_call.Tie as tie
 
 returns : tie.Need-returns
-unfolding callText bringsAddress _and_ _or_
+unfolding callWord
 returns c =
-    let match = c .before .before .before .before in
-    said _ _ _ _ (ap matchText (match .match-address .ensures) ∙ sym (if-true _ _ _ (match .before .if1 .taken))) (c .before .before .put-match .ensures)
+    let told = c .before .before .before .before .before in
+    rw (told .before .before .before .call .given .1, told .enum-told .given .1) (c .before .before .put-word .ensures)
 
 returns-2 : tie.Need-returns-2
-unfolding callText bringsAddress _and_ _or_
-returns-2 c = said _ _ _ _ (sym (if-false _ _ _ (c .if1 .left))) (none _ _)
+unfolding callWord
+returns-2 c =
+    let told = c .before .before .before .before .before in
+    rw (told .before .before .before .call .given .1, told .enum-told2 .given .1) (c .before .before .put-word2 .ensures)
+
+returns-3 : tie.Need-returns-3
+unfolding callWord
+returns-3 c = rw (c .before .before .before .before .before .enum-told3 .given .1) (c .before .before .put-word3 .ensures)
+
+returns-4 : tie.Need-returns-4
+unfolding callWord
+returns-4 c = rw (c .before .before .before .before .before .enum-told4 .given .1) (c .before .before .put-word4 .ensures)
 
 pub put-call-spec : {M : Type 1} → statement M
 put-call-spec =
-    tie.close (tie.spec (λ c κs. search needs) (λ c κs. search needs) (λ c. search needs) returns returns-2)
+    tie.close
+    (tie.spec
+    (λ c. search needs)
+    (λ c. search needs)
+    (λ c. search needs)
+    (λ c κs. search needs)
+    (λ c. search needs)
+    (λ c. search needs)
+    (λ c κs. search needs)
+    (λ c. search needs)
+    (λ c. search needs)
+    (λ c κs. search needs)
+    (λ c. search needs)
+    (λ c. search needs)
+    (λ c κs. search needs)
+    (λ c. search needs)
+    returns
+    (λ c. search needs)
+    returns-2
+    (λ c. search needs)
+    returns-3
+    (λ c. search needs)
+    returns-4)

@@ -1,4 +1,4 @@
--- `put_match` puts the word, the kind and the address, one after the other.
+-- `put_match` puts the word, the call and the address, one after the other.
 use Rattle.console.specs.WardLog.{matchText}
 use Rattle.text.proofs.Holds.{chain, same-room}
 use borrow.Author.Needs.{needs}
@@ -9,9 +9,9 @@ returns : tie.Need-returns
 unfolding matchText
 returns c =
     let address = c .before .before in
-    let kind = address .before .before .before .before in
-    let word = kind .before .before .before .before in
-    chain _ _ _ _ (word .put-word .ensures) (chain _ _ _ _ (kind .put-kind .ensures) (address .put-hex .ensures))
+    let call = address .before .before .before .before in
+    let word = call .before .before .before .before in
+    chain _ _ _ _ (word .put-word .ensures) (chain _ _ _ _ (call .put-call .ensures) (address .put-hex .ensures))
 
 same-length : tie.Need-same-length
 same-length c = same-room _ _ _ (returns c)

@@ -1,4 +1,4 @@
--- `match_kind` is `kindOf`. Its key is R where the byte has the own address, and 2 or 3 where it has not.
+-- `match_call` is `callOf`. Its key is R where the byte has the own address, and 2 or 3 where it has not.
 use Prim.Native.Nat.{ℕ, zero, suc, _+_, _*_, _%_, _<_}
 use mathlib.Core.Bool.{Bool, true, false, not}
 use mathlib.Core.Path.{_≡_, refl, sym, ap, _∙_}
@@ -6,7 +6,7 @@ use native.Mathlib.Omega.{arith}
 use lib.Dec.{eqb}
 use mir.Val.{boolByte}
 use borrow.Author.Needs.{needs}
-use Rattle.address.specs.Matching.{callsAll, callsOwn, kindOf}
+use Rattle.address.specs.Matching.{callsAll, callsOwn, callOf}
 use Rattle.address.specs.Number.{directionOf}
 use Rattle.address.specs.declared.matching.Match.the-variants.{Own, Nothing}
 use Rattle.address.specs.declared.matching.Match.{Match}
@@ -14,8 +14,8 @@ use Rattle.address.specs.declared.number.AddressByte.{AddressByte}
 use Rattle.address.specs.declared.number.Direction.the-variants.{Write, Read}
 use Rattle.notation.proofs.Cases.{calls, cases}
 use Rattle.notation.specs.Choice.{if_then_else_}
-use Rattle.address.proofs.matching.match_kind.Statement.{statement}
-use Rattle.address.proofs.matching.match_kind.Tie as tie
+use Rattle.address.proofs.matching.match_call.Statement.{statement}
+use Rattle.address.proofs.matching.match_call.Tie as tie
 
 -- what a key answers
 keyed : ℕ → Match
@@ -33,8 +33,8 @@ own-keyed own (suc (suc r)) h = absurd (omega (arith, h))
 -- and so the whole definition, with AA 1
 matched :
     (i2cadr : ℕ) (aa : Bool) (byte : AddressByte) (all own : Bool) → aa ≡ true → all ≡ callsAll i2cadr byte → all ≡ false →
-    own ≡ callsOwn i2cadr byte → keyed (byte .0 % 2 + 2 * boolByte (not own)) ≡ kindOf i2cadr aa byte
-unfolding kindOf directionOf
+    own ≡ callsOwn i2cadr byte → keyed (byte .0 % 2 + 2 * boolByte (not own)) ≡ callOf i2cadr aa byte
+unfolding callOf directionOf
 matched i2cadr aa byte all own on a no-call o = own-keyed own (byte .0 % 2) (search needs) ∙ rw (o) (search (sym a ∙ no-call, cases))
 
 -- the default arm
@@ -48,7 +48,7 @@ key-fits true = omega arith
 key-fits false = omega arith
 
 returns : tie.Need-returns
-unfolding kindOf
+unfolding callOf
 returns c = search calls
 
 returns-2 : tie.Need-returns-2
@@ -63,11 +63,11 @@ returns-4 : tie.Need-returns-4
 returns-4 c = sym (keyed-none _ (c .match .rest .0 .1) (c .match .rest .1)) ∙ search matched
 
 returns-5 : tie.Need-returns-5
-unfolding kindOf
+unfolding callOf
 returns-5 c = search cases
 
-pub match-kind-spec : {M : Type 1} → statement M
-match-kind-spec =
+pub match-call-spec : {M : Type 1} → statement M
+match-call-spec =
     tie.close
     (tie.spec
     (λ c κs. search needs)
