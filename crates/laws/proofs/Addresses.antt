@@ -97,11 +97,11 @@ module _ (c : Controller) (byte : ℕ) where
   abbrev Stays : Outcome → Type 0
   Stays o = matchOnBus (o .next) byte ≡ matchOnBus c byte
 
-  by-call : (f : Match → Outcome) → Stays (f General) → Stays (f (Own Write)) → Stays (f (Own Read)) → Stays (f Nothing) → (m : Match) → Stays (f m)
-  by-call f g w r n General = g
-  by-call f g w r n (Own Write) = w
-  by-call f g w r n (Own Read) = r
-  by-call f g w r n Nothing = n
+  every-call : (f : Match → Outcome) → Stays (f General) → Stays (f (Own Write)) → Stays (f (Own Read)) → Stays (f Nothing) → (m : Match) → Stays (f m)
+  every-call f g w r n General = g
+  every-call f g w r n (Own Write) = w
+  every-call f g w r n (Own Read) = r
+  every-call f g w r n Nothing = n
 
   or-refused : (b : Bool) (o : Outcome) (number : ℕ) → Stays o → Stays (if b then o else refuses c number)
   unfolding refuses
@@ -109,11 +109,11 @@ module _ (c : Controller) (byte : ℕ) where
 
   event-5 : (argument : ℕ) → Stays (addressByte c argument)
   unfolding addressByte addressed waitsFor interruptsAt accepts
-  event-5 argument = or-refused _ _ 8 (by-call (addressed c) refl refl refl refl (matches c argument))
+  event-5 argument = or-refused _ _ 8 (every-call (addressed c) refl refl refl refl (matches c argument))
 
   event-8 : (argument : ℕ) → Stays (addressLost c argument)
   unfolding addressLost outbid interruptsAt accepts
-  event-8 argument = or-refused _ _ 8 (by-call (outbid c) refl refl refl refl (matches c argument))
+  event-8 argument = or-refused _ _ 8 (every-call (outbid c) refl refl refl refl (matches c argument))
 
 pub match-stays : MatchStays
 unfolding eventOf eventSound badArgument if_then_else_ _or_
