@@ -1,4 +1,4 @@
-// What is printed of an answer and of the record after it.
+// What is printed of an answer, of the record after it and, for the ward log, of an address byte.
 use crate::print::print;
 use console::ward_log::put_ward_note;
 use control::turn::Called;

@@ -94,24 +94,25 @@ match-tells i2cadr aa byte = record {
 
 module _ (c : Controller) (byte : ℕ) where
   -- the match after this outcome is that before it
-  abbrev Stays : Outcome → Type 0
-  Stays o = matchOnBus (o .next) byte ≡ matchOnBus c byte
+  abbrev SameMatch : Outcome → Type 0
+  SameMatch o = matchOnBus (o .next) byte ≡ matchOnBus c byte
 
-  every-call : (f : Match → Outcome) → Stays (f General) → Stays (f (Own Write)) → Stays (f (Own Read)) → Stays (f Nothing) → (m : Match) → Stays (f m)
+  every-call : (f : Match → Outcome) → SameMatch (f General) → SameMatch (f (Own Write)) → SameMatch (f (Own Read)) → SameMatch (f Nothing) →
+      (m : Match) → SameMatch (f m)
   every-call f g w r n General = g
   every-call f g w r n (Own Write) = w
   every-call f g w r n (Own Read) = r
   every-call f g w r n Nothing = n
 
-  or-refused : (b : Bool) (o : Outcome) (number : ℕ) → Stays o → Stays (if b then o else refuses c number)
+  or-refused : (b : Bool) (o : Outcome) (number : ℕ) → SameMatch o → SameMatch (if b then o else refuses c number)
   unfolding refuses
-  or-refused b o number h = split Stays b o (refuses c number) (λ e. h) (λ e. refl)
+  or-refused b o number h = split SameMatch b o (refuses c number) (λ e. h) (λ e. refl)
 
-  event-5 : (argument : ℕ) → Stays (addressByte c argument)
+  event-5 : (argument : ℕ) → SameMatch (addressByte c argument)
   unfolding addressByte addressed waitsFor interruptsAt accepts
   event-5 argument = or-refused _ _ 8 (every-call (addressed c) refl refl refl refl (matches c argument))
 
-  event-8 : (argument : ℕ) → Stays (addressLost c argument)
+  event-8 : (argument : ℕ) → SameMatch (addressLost c argument)
   unfolding addressLost outbid interruptsAt accepts
   event-8 argument = or-refused _ _ 8 (every-call (outbid c) refl refl refl refl (matches c argument))
 

@@ -1,5 +1,5 @@
--- What is claimed of address bytes and of the match's answer. The proofs are in proofs/Addresses.antt. A byte is any number here, so that it is
--- below 256 is said where it matters.
+-- What is claimed of address bytes and of the match's answer. The proofs are in proofs/Addresses.antt. In these definitions a byte is any number;
+-- where it matters that it is below 256, the claim says so.
 use mathlib.Core.Bool.{Bool}
 use mathlib.Core.Path.{_≡_}
 use Prim.Native.Nat.{ℕ, _<_}

@@ -12,13 +12,13 @@ use Rattle.address.specs.declared.number.AddressByte.{AddressByte}
 use Rattle.address.proofs.matching.match_address.Statement.{statement}
 use Rattle.address.proofs.matching.match_address.Tie as tie
 
-joined : (i2cadr : ℕ) (aa : Bool) (byte : AddressByte) (m : Match) (a : Address) → m ≡ callOf i2cadr aa byte → a ≡ addressOf byte →
+both-parts : (i2cadr : ℕ) (aa : Bool) (byte : AddressByte) (m : Match) (a : Address) → m ≡ callOf i2cadr aa byte → a ≡ addressOf byte →
     (record { call = m; address = a }) ≡ matchOf i2cadr aa byte
 unfolding matchOf
-joined i2cadr aa byte m a e f = rw (e, f)
+both-parts i2cadr aa byte m a e f = rw (e, f)
 
 returns : tie.Need-returns
-returns c = search joined
+returns c = search both-parts
 
 pub match-address-spec : {M : Type 1} → statement M
 match-address-spec = tie.close (tie.spec (λ c κs. search needs) (λ c κs. search needs) returns)
