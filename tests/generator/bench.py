@@ -10,6 +10,7 @@ import model
 
 LIMIT = 65536                        # traces up to 65,536 bytes
 READ, WRITE, EVENT, JOB, FILL = range(5)     # the kinds of group
+LINES = (1, 1, 1, 4, 0)              # how many lines each kind prints
 HEAD = 4                             # 03 KIND ADDRESS N
 
 
@@ -83,9 +84,9 @@ def print_group(c, part):
     return state_line(c, *group(c, *part))
 
 
-def run(raw):
-    """The output of `bench` for the trace raw."""
-    c, lines, bad, k = model.Controller(), [], None, 0
+def groups(raw):
+    """The groups of a trace that are run, and where it is bad, else None."""
+    parts, k = [], 0
     data = raw[:LIMIT]
     while k < len(data):
         length, wrong = next_group(data, k)
@@ -93,12 +94,17 @@ def run(raw):
         if cut and len(raw) > LIMIT:
             break                    # doesn't fit whole in the first 65,536
         if cut or wrong:
-            bad = k                  # cut short, another kind, late 04
-            break
-        lines.append(print_group(c, data[k:k + length]))
+            return parts, k          # cut short, another kind, late 04
+        parts.append(data[k:k + length])
         k += length
-    if bad is None and len(raw) > LIMIT:
-        bad = LIMIT
+    return parts, LIMIT if len(raw) > LIMIT else None
+
+
+def run(raw):
+    """The output of `bench` for the trace raw."""
+    c = model.Controller()
+    parts, bad = groups(raw)
+    lines = [print_group(c, part) for part in parts]
     if bad is not None:
         lines.append(f"bad trace at {bad}\n")
     lines.append(buffer_line(c))

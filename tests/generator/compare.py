@@ -12,12 +12,14 @@ from collections import Counter
 
 import bench
 import driver
+import lost_ways
 from random_jobs import job_group, job_input
 
 GROUPS = 5000
 INPUTS = 2000
 JOBS_AMONG = 0.03            # how often a group is a job, with those around it
 CALLS_AMONG = 0.03           # and how often an address byte, with those before
+LOST_AMONG = 0.005           # and how often lost arbitration, with those after
 CONTROL = (0x40, 0x60, 0xC0, 0xC1, 0x41, 0x50, 0x70, 0xE0, 0xE1)
 STORED = (0x00, 0x01, 0x02, 0x03, 0x44, 0x45, 0x81, 0x83, 0xC4, 0xA0, 0xA1,
           0xE1, 0xA5, 0x5A)
@@ -27,6 +29,9 @@ ANSWERS = {0} | set(range(21, 30))       # Jobs: every answer
 # Ask 5: whom events 5 and 8 call, each with the status it gives
 WANTED_CALLS = {"60 own write", "A8 own read", "D0 general", "F8 none",
                 "68 own write", "B0 own read", "D8 general", "38 none"}
+# Ask 2: ways out of 38h
+STOP, TIMEOUT, RESET = (2, 3, 0), (2, 12, 0), (2, 14, 0)
+OUT = (STOP, TIMEOUT, RESET, (1, 0, 5, 1, 2, 0xA5, 1, 2, 0x5A), (1, 3, 0x80))
 
 
 def some(draw, likely):
@@ -74,6 +79,8 @@ def jobs(draw):
         out += bytes((1, 3, draw.choice((0x40, 0x41, 0xC0, 0xC1))))
     for _ in range(draw.choice((1, 1, 2, 3))):
         out += job_group(draw)
+        if draw.random() < 0.2:
+            out += bytes(STOP)
     return out
 
 
@@ -91,13 +98,28 @@ def call(draw):
                         2, 8, byte))
 
 
+def arbitration(draw):
+    """38h, hand and moved often not 0; some groups there, then a way out."""
+    byte = draw.choice((0xA0, 0xA1))
+    out = bytes(RESET + (1, 2, 3, 1, 3, 0x60, 2, 1, 0, 1, 1, byte, 1, 3, 0x40,
+                         2, 6, 0, 1, 3, 0x41, 2, 6 + byte % 2, 0, 2, 9, 0,
+                         0, 1, 0))
+    for _ in range(draw.randrange(4)):
+        timeout = (1, 0, 4, 1, 2, draw.randrange(256))   # TE 0 or 1
+        write = (1, 3, some(draw, CONTROL))
+        out += bytes(draw.choice((timeout, write, group(draw))))
+    return out + bytes(draw.choice(OUT))
+
+
 def groups(draw):
-    """One group, or a job or a call with those around it."""
+    """One group, or a job, a call or lost arbitration with those around."""
     way = draw.random()
     if way < JOBS_AMONG:
         return jobs(draw)
     if way < JOBS_AMONG + CALLS_AMONG:
         return call(draw)
+    if way < JOBS_AMONG + CALLS_AMONG + LOST_AMONG:
+        return arbitration(draw)
     return bytes(group(draw))
 
 
@@ -112,17 +134,32 @@ def trace(seed):
     return raw
 
 
-def answers(text):
+def answers(_, text):
     """How often each answer stands in an output."""
     return Counter(int(line.split()[1]) for line in text.splitlines()
                    if line.startswith("answer "))
 
 
-def calls(text):
+def calls(_, text):
     """How often each call stands in an output, with the status given."""
     lines = [line.split() for line in text.splitlines() if " called " in line]
     return Counter(" ".join([words[5]] + words[words.index("called") + 1:-1])
                    for words in lines)
+
+
+def lost(raw, text):
+    """Ask 2: how often a group left 38h, or kept it, in each of the ways."""
+    found, at_38, lines = Counter(), False, iter(text.splitlines())
+    for part in bench.groups(raw)[0]:
+        line = ""
+        for _ in range(bench.LINES[part[0]]):
+            line = next(lines)
+        was, at_38 = at_38, "status 38" in line
+        if was and part[0] != bench.JOB:
+            refused = not line.startswith("refused 0")
+            found[lost_ways.way(part, refused, at_38)] += 1
+    del found[None]
+    return found
 
 
 def told(found):
@@ -148,20 +185,27 @@ def same(program, raw, want, name):
     return False
 
 
-def compare(program, inputs, model, name, wanted, wanted_calls):
+# What is counted in random traces and in random jobs, and all that must occur;
+# `job` runs on a fresh controller: never 22, and tells of no call
+IN_TRACES = (("answers", answers, ANSWERS), ("calls", calls, WANTED_CALLS),
+             ("38h", lost, lost_ways.WAYS))
+IN_JOBS = (("answers", answers, ANSWERS - {22}), ("calls", calls, set()))
+
+
+def compare(program, inputs, model, name, counts):
     """All inputs through program and model; all that is wanted occurs."""
-    found, called = Counter(), Counter()
+    found = {words: Counter() for words, _, _ in counts}
     for seed, raw in enumerate(inputs):
         want = model(raw)
-        found += answers(want)
-        called += calls(want)
+        for words, count, _ in counts:
+            found[words] += count(raw, want)
         if not same(program, raw, want, f"{name} {seed}"):
             return False
-    print(f"{name}s: program and model agree; answers {told(found)}")
-    if called:
-        print(f"{name}s: calls {told(called)}")
-    assert set(found) == wanted, "every answer occurs"
-    assert set(called) == wanted_calls, "every call occurs"
+    print(f"{name}s: program and model agree")
+    for words, _, wanted in counts:
+        if found[words]:
+            print(f"{name}s: {words} {told(found[words])}")
+        assert set(found[words]) == wanted, f"{words}: all that is wanted"
     return True
 
 
@@ -173,11 +217,9 @@ def main(args):
     traces = (trace(seed) for seed in range(count))
     inputs = (job_input(random.Random(seed)) for seed in range(INPUTS))
     print(f"{count} traces of {GROUPS} random groups, {INPUTS} random jobs")
-    fine = compare(args[0], traces, bench.run, "random trace", ANSWERS,
-                   WANTED_CALLS)
-    # `job` runs on a fresh controller: never 22, and tells of no call
+    fine = compare(args[0], traces, bench.run, "random trace", IN_TRACES)
     fine = fine and compare(args[1], inputs, driver.job_program,
-                            "random job", ANSWERS - {22}, set())
+                            "random job", IN_JOBS)
     return 0 if fine else 1
 
 

@@ -86,8 +86,8 @@ def serve(job):
         job.write(I2CCON, 0x41)
     elif status == 0x40:             # a read has no data
         job.write(I2CCON, 0x41)
-    elif status == LOST:             # 25: the driver has written 40h
-        job.write(I2CCON, 0x40)
+    elif status == LOST:             # 25: the driver has written 40h;
+        job.write(I2CCON, 0x40)      # Ask 2: the record stays at 38h
     elif status in ENDS:
         finish(job, status)
     return status

@@ -1,7 +1,7 @@
 """Every event in every turn, with each flag that its rule names both ways."""
 
 from reach import con, reach
-from trace import HOSTS, SOME_HOSTS, TURNS, Trace
+from trace import HOSTS, SOME_HOSTS, TURNS, Trace, place
 
 
 STA_FREE = ("Free", "Busy", "Listen", "Address", "SlaveReceive own",
@@ -44,13 +44,19 @@ def make_events():
 
 
 def event_host():
-    """Every event at every status: all refused 8 but event 14."""
+    """Every event at every status: refused 8 but 14, and 3 and 12 at 38h."""
     t = Trace("event-host", "Every event in Host, at every status")
     for name in HOSTS:
-        reach(t, name)
-        for n in range(1, 15):
-            for a in SAMPLE.get(n, (0,)):
-                t.ev(n, a, f"event {n} at {name[:2]}h{name[2:]}:")
+        every_event(t, name, lambda: reach(t, name))
+
+
+def every_event(t, name, again):
+    """Events 1 to 14 at a status, reached again after each one taken."""
+    for n in range(1, 15):
+        for a in SAMPLE.get(n, (0,)):
+            if place(t.c) != name:
+                again()
+            t.ev(n, a, f"event {n} at {name[:2]}h{name[2:]}:")
 
 
 def more_plain(traces):

@@ -113,7 +113,7 @@ def others_called(t):
             t.ev(3, 0, "another's STOP:")
         two_jobs(t)
         t.wr(3, 0xC0, "AA 1:")
-    t.note("lost to another, who goes on")
+    t.note("lost to another, who goes on: its STOP alone is heard")
     t.job(25, 0, 0x50, 1, [0x55], [START, (8, 0x40)])
     t.ev(2, 0, "another's START:")
     at_once(t)

@@ -3,7 +3,7 @@
 Demand 3: jobs, resets, enabling writes and events 2, 3 and 5 alone.
 """
 
-from job_steps import OTHERS, at_once, done_read, done_write, soft
+from job_steps import LOST_BY, OTHERS, at_once, done_read, done_write, soft
 from pairs import ACK, NACK, RESET, START, STOP, bytes_in, write_script
 from reach import pattern
 from trace import Trace
@@ -20,6 +20,7 @@ def make_old_contents():
         old_called(t)
         old_faults(t)
         old_long(t)
+        old_lost(t)
 
 
 def old_refused(t):
@@ -139,3 +140,19 @@ def old_long(t):
     done_write(t, long[::-1])
     t.job(24, 0, 0x50, 67, long, write_script(67)[:-2] + [NACK, STOP])
     done_read(t, [0xFE])
+
+
+def old_lost(t):
+    t.note("lost; enabling writes keep 38h, event 3 leaves it")
+    for k, on in enumerate((0x40, 0x60, 0xC1, 0x71)):
+        t.job(25, 0, 0x50, 2, [0xB0, 0xB1], LOST_BY["event 9 amid"])
+        at_once(t)
+        t.wr(3, on, f"enabling, {on:02X}h:")
+        at_once(t)
+        t.ev(2, 0, "event 2:")
+        t.ev(5, 0xE0, "event 5, own address:")
+        t.ev(3, 0, "event 3:")
+        if t.c.sta:
+            at_once(t)
+            t.wr(3, 0x40, "enabling:")
+        done_read(t, [0xB2 + k, 0xB3])

@@ -1,19 +1,19 @@
 """Traces with jobs: in a row, and after each answer."""
 
+from job_lost import make_lost_jobs
 from job_mix import make_mixes
 from job_old import make_old_contents
 from job_refusals import make_before_jobs, make_refused_jobs
-from job_steps import at_once, done_read, done_write, usable_again
-from pairs import ACK, NACK, RESET, START, STOP, read_script
+from job_steps import LOST_BY, at_once, done_read, done_write, usable_again
+from pairs import ACK, LOST, NACK, RESET, START, STOP, read_script
 from reach import dump, fill, pattern, show_registers, start
 from trace import Trace
-
-LOST = (9, 0)
 
 
 def make_job_traces():
     make_in_a_row()
     make_after_25()
+    make_lost_jobs()
     make_after_26()
     make_after_27()
     make_after_28()
@@ -64,16 +64,14 @@ def in_a_row_full(t):
 
 def make_after_25():
     t = Trace("jobs-after-25", "Answer 25, another job at once, and on")
-    ways = {"event 8": [START, (8, 0x40)], "event 9": [START, ACK, LOST],
-            "event 9 amid": [START, ACK, ACK, LOST]}
-    for name, script in ways.items():
+    for name, script in LOST_BY.items():
         for way in ("reset pin", "software reset", "I2CCON writes"):
             t.note(f"lost by {name}, then {way}")
             start(t)
             t.wr(3, 0x40)
             t.job(25, 0, 0x50, 3, [1, 2, 3], script)
             at_once(t)
-            t.wr(3, 0x40, "40h in Busy:")
+            t.wr(3, 0x40, "40h at 38h:")
             at_once(t)
             usable_again(t, way)
     t.note("another's STOP makes it Free")

@@ -13,6 +13,7 @@ import os
 import sys
 
 import bench
+import lost_ways
 import model
 from bad import make_bad
 from cases import make_cases
@@ -23,14 +24,16 @@ from job_file import JOBS
 from job_limits import make_job_limits
 from job_traces import make_job_traces
 from jobs import make_jobs
+from lost import make_lost
 from moves import make_moves
 from refusals import make_refusals
 from registers import make_registers
 from software_reset import make_software_reset
 from starts import make_start_ff
 from trace import (
-    HOSTS, SEEN_CALLS, SEEN_CONTROL, SEEN_EVENTS, SEEN_OFF, SEEN_REFUSALS,
-    SEEN_STATUSES, TRACES, TURNS, parse)
+    HOSTS, SEEN_CALLS, SEEN_CONTROL, SEEN_EVENTS, SEEN_LOST_CONTROL,
+    SEEN_LOST_EVENTS, SEEN_LOST_WAYS, SEEN_OFF, SEEN_REFUSALS, SEEN_STATUSES,
+    TRACES, TURNS, parse)
 
 # Long outputs, and how many of their lines repeat
 FOLDED = {"bad-65536": 5, "bad-65540": 5, "bad-job-65536": 6,
@@ -75,6 +78,18 @@ def check_calls(files):
     for name in ("event-05.expected", "event-08.expected"):
         assert all(end + "\n" in files[name] for end in ENDS)
     return f"calls {len(wanted)}"
+
+
+def check_lost():
+    """Ask 2: every I2CCON value and every event at 38h, and each way out."""
+    assert SEEN_LOST_CONTROL == set(range(256))
+    wanted = {(n, te, sta) for n in range(1, 15) for te in (0, 1)
+              for sta in (0, 1)}
+    assert wanted <= SEEN_LOST_EVENTS
+    assert SEEN_LOST_WAYS == lost_ways.WAYS
+    left = sum(1 for way in SEEN_LOST_WAYS if way.startswith("left"))
+    return (f"at 38h I2CCON values {len(SEEN_LOST_CONTROL)}, (event, TE, STA) "
+            f"{len(wanted)}, ways out {left}")
 
 
 def folded(text, size):
@@ -135,6 +150,7 @@ def make_traces():
     make_cases()
     make_events()
     make_control()
+    make_lost()
     make_refusals()
     make_software_reset()
     make_registers()
@@ -218,7 +234,7 @@ def main(args):
         return 2
     sets = [trace_files(), job_files()]
     print(f"covered: {check_coverage()}, {check_calls(sets[0])}, "
-          f"{check_answers(*sets)}")
+          f"{check_lost()}, {check_answers(*sets)}")
     act = check_folder if "--check" in args else write_folder
     wrong = [act(folder, files) for folder, files in zip(folders, sets)]
     return 1 if any(wrong) else 0

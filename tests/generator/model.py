@@ -1,7 +1,8 @@
 """A plain reference model of the I2C controller, from the papers alone.
 
 The rules are document 01's; each stands beside a comment that names the
-section. What the match answers is document 02's, Ask 5.
+section. What the match answers is document 02's, Ask 5; what leaves status
+38h is its Ask 2.
 """
 
 from dataclasses import dataclass, field
@@ -122,7 +123,7 @@ def turn_after_control(c, v):
     if s in (0x48, 0x58):            # as for 18h, but neither is refused 5
         return turn_after_stop_bits(v, None)
     if s == 0x38:
-        return Turn("Busy")
+        return c.turn                # Ask 2: SI stays 1 and status 38h
     if s in (0x60, 0x68, 0x80):
         return Turn("SlaveReceive", detail="own")
     if s in (0xD0, 0xD8, 0xE0):
@@ -141,13 +142,13 @@ def turn_after_control(c, v):
 def write_control(c, v):
     """Writing I2CCON: an accepted write."""
     turn = turn_after_control(c, v)
-    c.turn = turn                    # no longer Host: clears SI
+    c.turn = turn                    # clears SI: not Host, save at 38h
     c.aa = v >> 7 & 1                # stores AA, ENSIO, STA, MODE
     c.ensio = v >> 6 & 1
     c.sta = v >> 5 & 1 if c.ensio else 0     # ENSIO 0: Off with STA 0
     c.mode = v & 1
-    # STO is stored only where it leads to Stopping
-    c.sto = 1 if turn.name == "Stopping" else 0
+    if turn.name == "Stopping":
+        c.sto = 1                    # stored only there; Ask 2: never at 38h
     c.hand = 0                       # The controller record: hand place
     c.moved = 0                      # The controller record: moved count
 
@@ -276,6 +277,8 @@ def expected(c, n, a):
     t = c.turn.name
     if n == 14:
         return True                  # 14. Reset pin: always
+    if c.status() == 0x38:           # Ask 2: both are expected with SI 1
+        return n == 3 or (n == 12 and c.te() == 1)
     if t in ("Host", "Off"):
         return False                 # only with SI 0 and not in Off
     if n == 1:                       # 1. Own START
@@ -308,8 +311,9 @@ def expected(c, n, a):
 
 def give(c, status, detail=""):
     """The controller record: an event that gives a status leads to Host."""
+    if c.turn.name != "Host":        # Ask 2: event 12 at 38h finds SI 1
+        c.hand = 0                   # back to 0 whenever SI becomes 1
     c.turn = Turn("Host", status, detail)
-    c.hand = 0                       # back to 0 whenever SI becomes 1
 
 
 def event(c, n, a):
@@ -348,7 +352,7 @@ def plain_event(c, n):
         if t == "SlaveReceive":
             give(c, 0xA0, "stop")
         else:
-            c.turn = Turn("Free")    # Busy: Free
+            c.turn = Turn("Free")    # Busy, and at 38h by Ask 2: Free
     elif n == 4:                     # 4. Stopping: Free, STO 0
         c.turn = Turn("Free")
         c.sto = 0

@@ -117,6 +117,12 @@ def fill(t, base, count=68):
         t.wr(1, pattern(k, base))
 
 
+def to_end(t):
+    """Reads I2CDAT until the hand place is 68."""
+    while t.c.hand < 68:
+        t.rd(1)
+
+
 def dump(t, count=68):
     """From hand place 0: count bytes out of I2CDAT."""
     for k in range(count):

@@ -1,6 +1,6 @@
 """Every refusal, and the neighbouring pairs of the table."""
 
-from reach import bits_text, reach, start
+from reach import bits_text, reach, start, to_end
 from trace import Trace, WIRE
 
 
@@ -86,8 +86,7 @@ def refusal_4_to_8(t):
     t.note("7: an I2CDAT access with the hand place at 68")
     for name in ("Off", "Free", "Busy", "Listen", "08", "28", "00"):
         reach(t, name)
-        while t.c.hand < 68:
-            t.rd(1)
+        to_end(t)
         t.rd(1, f"read I2CDAT, hand 68, {name}:")
         t.wr(1, 0x77, f"write I2CDAT, hand 68, {name}:")
         t.rd(0, "read I2CSTA:")

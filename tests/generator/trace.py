@@ -1,6 +1,7 @@
 """A trace in the making, with the model beside it, and what has been covered."""
 
 import bench
+import lost_ways
 import model
 import pairs
 from driver import print_job
@@ -11,6 +12,9 @@ SEEN_EVENTS = set()          # (turn, event)
 SEEN_CONTROL = set()         # (place, STA, STO, AA, MODE), ENSIO 1
 SEEN_OFF = set()             # (place), ENSIO 0
 SEEN_CALLS = set()           # (event, AA, GC, the byte, whom it calls)
+SEEN_LOST_CONTROL = set()    # values at 38h, hand and moved not 0 before
+SEEN_LOST_EVENTS = set()     # (event, TE, STA) at 38h
+SEEN_LOST_WAYS = set()       # how 38h was left, and how it was kept
 SEEN_REFUSALS = set()
 SEEN_STATUSES = set()
 
@@ -132,6 +136,8 @@ def note_cover(c, was, before, kind, a, b, number):
     """Keeps what has been covered; checks what must hold after a group."""
     assert model.sound(c)
     turn = "Host" if before["turn"].name == "Host" else was
+    if was == "38":
+        note_lost(c, before, kind, a, b, number)
     if kind == 2:
         SEEN_EVENTS.add((turn, a))
     if kind == 1 and a == 3:
@@ -144,6 +150,17 @@ def note_cover(c, was, before, kind, a, b, number):
     SEEN_STATUSES.add(c.status())
     if number:
         assert snapshot(c) == before, "a refusal leaves the record"
+
+
+def note_lost(c, before, kind, a, b, number):
+    """Ask 2: keeps what came at 38h, by the record before it."""
+    if kind == 1 and a == 3 and before["hand"] and before["moved"]:
+        SEEN_LOST_CONTROL.add(b)
+    if kind == 2 and number != 2:
+        SEEN_LOST_EVENTS.add((a, before["timeout"] >> 7, before["sta"]))
+    way = lost_ways.way((kind, a, b), number, c.status() == 0x38)
+    if way:
+        SEEN_LOST_WAYS.add(way)
 
 
 def byte_case(own, byte):

@@ -1,13 +1,15 @@
 -- Which turns a rule lists, from what an arm of a `match` on the turn knows. An arm of one turn knows that turn's tag, an arm of several
 -- and the default know that the tag is one of a list. Assumes nothing.
-use mathlib.Core.Bool.{Bool, true, false, true≢false}
+use mathlib.Core.Bool.{Bool, true, false, true≢false, false≢true}
 use mathlib.Core.List.{List, [], _∷_}
 use mathlib.Core.Path.{_≡_, refl, sym, ap, _∙_}
 use Prim.Native.Nat.{ℕ}
+use borrow.Author.Tests.{eqb-true}
 use denote.Enum.Declared.{tagOf}
-use lib.Dec.{T}
+use lib.Dec.{T, eqb}
 use types.Run.{OneOf}
 use Rattle.control.specs.Turn.{off, host, free, busy, listen, address, send, receive, slaveReceive, slaveSend, stopping, restarting, kind, statusOf}
+use Rattle.control.specs.Turn.{edgeOf, lost}
 use Rattle.control.specs.declared.turn.Turn.the-variants.{Off, Host, Free, Busy, Listen}
 use Rattle.control.specs.declared.turn.Turn.the-variants.{Address, Send, Receive, SlaveReceive, SlaveSend, Stopping, Restarting}
 use Rattle.control.specs.declared.turn.Turn.{Turn}
@@ -61,3 +63,22 @@ status-idle (SlaveReceive w) e = refl
 status-idle SlaveSend e = refl
 status-idle Stopping e = refl
 status-idle Restarting e = refl
+
+pub idle-not-lost : (t : Turn) → among (kind t) (host ∷ []) ≡ false → lost t ≡ false
+idle-not-lost t e = ap (λ (status : ℕ). eqb status 0x38) (status-idle t e)
+
+-- lost is Host at 38h, since out of Host the status is F8h
+pub lost-host : (t : Turn) → lost t ≡ true → t ≡ Host 0x38 (edgeOf t)
+unfolding statusOf edgeOf
+lost-host Off e = absurd (false≢true e)
+lost-host (Host s d) e = ap (λ (n : ℕ). Host n d) (eqb-true s 0x38 e)
+lost-host Free e = absurd (false≢true e)
+lost-host Busy e = absurd (false≢true e)
+lost-host Listen e = absurd (false≢true e)
+lost-host Address e = absurd (false≢true e)
+lost-host Send e = absurd (false≢true e)
+lost-host Receive e = absurd (false≢true e)
+lost-host (SlaveReceive w) e = absurd (false≢true e)
+lost-host SlaveSend e = absurd (false≢true e)
+lost-host Stopping e = absurd (false≢true e)
+lost-host Restarting e = absurd (false≢true e)

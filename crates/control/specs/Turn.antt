@@ -3,6 +3,7 @@
 use mathlib.Core.Bool.{Bool}
 use mathlib.Core.List.{List, [], _∷_}
 use Prim.Native.Nat.{ℕ}
+use lib.Dec.{eqb}
 use Rattle.control.specs.declared.turn.Called.the-variants.{Own}
 use Rattle.control.specs.declared.turn.Called.{Called}
 use Rattle.control.specs.declared.turn.Edge.the-variants.{Stop}
@@ -92,6 +93,10 @@ statusOf (SlaveReceive called) = 0xF8
 statusOf SlaveSend = 0xF8
 statusOf Stopping = 0xF8
 statusOf Restarting = 0xF8
+
+-- Host at 38h: arbitration was lost, and the bus has not let go
+abbrev pub lost : Turn → Bool
+lost turn = eqb (statusOf turn) 0x38
 
 -- at A0h, the bus condition that came; in every other turn `Stop`, which nothing reads
 unfoldable pub edgeOf : Turn → Edge

@@ -1,7 +1,7 @@
 // The turn: what the controller waits for (document 01's term), with what that wait needs and the record does not hold.
 ghost use mathlib.Core.Path.{_≡_};
 ghost use mathlib.Core.List.{[], _∷_};
-ghost use Rattle.control.specs.Turn.{host, waits, wireTurns, dataTurns, statusOf};
+ghost use Rattle.control.specs.Turn.{host, waits, wireTurns, dataTurns, statusOf, lost};
 
 // Which bus condition ended a slave reception. It matters at status A0h alone; the rules write `Stop` with every other.
 pub enum Edge {
@@ -52,6 +52,14 @@ impl Turn {
         } else {
             false
         }
+    }
+
+    // Host at 38h: arbitration was lost, and the bus has not let go.
+    pub fn is_lost(self) -> bool
+        ensures { λ r. ⌜ r ≡ lost self ⌝ }
+    {
+        let status = self.status();
+        status == 0x38
     }
 
     // A wire turn (document 01's term): something is under way on the bus.

@@ -56,7 +56,8 @@ fn respond_at(status: u8, edge: Edge, k: Control) -> Response
             }
         }
         0x48 | 0x58 => end_or(k, Response::Unlisted),
-        0x38 => Response::Next(Turn::Busy),
+        // The turn stays: only the bus, a reset or ENSIO 0 leaves 38h.
+        0x38 => Response::Next(Turn::Host(0x38, edge)),
         0x60 | 0x68 | 0x80 => Response::Next(Turn::SlaveReceive(Called::Own)),
         0xD0 | 0xD8 | 0xE0 => Response::Next(Turn::SlaveReceive(Called::General)),
         0x88 | 0xC0 | 0xC8 | 0xE8 => Response::Next(Turn::Busy),

@@ -5,7 +5,7 @@ use Rattle.answer.specs.Refusal.{refusalNumber}
 use Rattle.control.specs.declared.turn.Turn.the-variants.{Free, Busy, Listen}
 use Rattle.controller.specs.Condition.{withoutStop}
 use Rattle.controller.specs.Registers.{wrote, stored}
-use Rattle.controller.specs.Reply.{Outcome, refuses, accepts, waitsFor, interruptsAt, gives}
+use Rattle.controller.specs.Reply.{Outcome, refuses, accepts, waitsFor, interruptsAt, gives, changesStatus}
 use Rattle.controller.specs.Reset.{reset}
 use Rattle.controller.specs.Setters.{withPlace, withHand, withMoved, withPointer, withArmed, withRegisters, withControl, withTurn}
 use Rattle.controller.specs.Transfer.{counted, received}
@@ -58,4 +58,5 @@ afterEvent c (event.Sent byte) = accepts (counted c) byte
 afterEvent c (event.SentLast status byte) = gives (counted c) status byte
 afterEvent c (event.Received byte) = accepts (received c byte) 0
 afterEvent c (event.ReceivedLast status byte value) = gives (received c byte) status value
+afterEvent c (event.ChangesStatus status) = changesStatus c status
 afterEvent c event.Reset = accepts (reset c) 0

@@ -30,10 +30,18 @@ accepts c value = record { next = c; refused = 0; value = value }
 unfoldable pub waitsFor : Controller → Turn → ℕ → Outcome
 waitsFor c turn value = accepts (withTurn c turn) value
 
--- "An event that gives a status leads to Host"; the hand place goes "back to 0 .. whenever SI becomes 1"
+-- "An event that gives a status leads to Host"
+abbrev pub withStatus : Controller → ℕ → Edge → Controller
+withStatus c status edge = withTurn c (Host status edge)
+
+-- the hand place goes "back to 0 .. whenever SI becomes 1"
 unfoldable pub interruptsAt : Controller → ℕ → Edge → ℕ → Outcome
-interruptsAt c status edge value = accepts (withHand (withTurn c (Host status edge)) 0) value
+interruptsAt c status edge value = accepts (withHand (withStatus c status edge) 0) value
 
 -- every status but A0h: the bus condition does not matter there, and `Stop` is written
 abbrev pub gives : Controller → ℕ → ℕ → Outcome
 gives c status value = interruptsAt c status Stop value
+
+-- another status where SI is 1 already: it does not become 1, and the hand place stays
+unfoldable pub changesStatus : Controller → ℕ → Outcome
+changesStatus c status = accepts (withStatus c status Stop) 0

@@ -7,9 +7,10 @@ ghost use mathlib.Core.Bool.{false};
 ghost use mathlib.Core.Path.{_≡_};
 ghost use Prim.Native.Nat.{_+_, _≤_};
 ghost use Rattle.control.specs.declared.turn.Edge.the-variants.{Stop};
-ghost use Rattle.control.specs.declared.turn.Turn.the-variants.{Host, Free};
+ghost use Rattle.control.specs.declared.turn.Turn.the-variants.{Free};
 ghost use Rattle.controller.specs.Effect.{setTo, stoCleared};
 ghost use Rattle.controller.specs.Registers.{stored};
+ghost use Rattle.controller.specs.Reply.{withStatus};
 ghost use Rattle.controller.specs.Setters.{withHand, withPointer, withArmed, withRegisters, withTurn};
 ghost use Rattle.controller.specs.Transfer.{counted};
 
@@ -41,18 +42,25 @@ impl Controller {
         self.turned(Turn::Free)
     }
 
-    // A status: the host's turn, and the hand place back at 0.
+    // A status: the host's turn.
+    pub fn with_status(self, status: u8, edge: Edge) -> Controller
+        ensures { λ r. ⌜ r ≡ withStatus self status edge ⌝ }
+    {
+        self.turned(Turn::Host(status, edge))
+    }
+
+    // A status, and SI becomes 1: the hand place goes back to 0.
     pub fn interrupted(mut self, status: u8, edge: Edge) -> Controller
-        ensures { λ r. ⌜ r ≡ withHand (withTurn self (Host status edge)) 0 ⌝ }
+        ensures { λ r. ⌜ r ≡ withHand (withStatus self status edge) 0 ⌝ }
     {
         self.hand = 0;
-        self.turned(Turn::Host(status, edge))
+        self.with_status(status, edge)
     }
 
     // A data byte is counted, and its move ends with this status.
     pub fn ended(mut self, status: u8) -> Controller
         requires { ⌜ self .moved ≤ 68 ⌝ }
-        ensures { λ r. ⌜ r ≡ withHand (withTurn (counted self) (Host status Stop)) 0 ⌝ }
+        ensures { λ r. ⌜ r ≡ withHand (withStatus (counted self) status Stop) 0 ⌝ }
     {
         self.moved += 1;
         self.interrupted(status, Edge::Stop)

@@ -54,7 +54,13 @@ impl Controller {
         match turn {
             Turn::Busy => EventEffect::Free,
             Turn::SlaveReceive(_) => self.interrupt(0xA0, Edge::Stop, 0),
-            _ => self.refuse(Refusal::Unexpected),
+            _ => {
+                if turn.is_lost() {
+                    EventEffect::Free
+                } else {
+                    self.refuse(Refusal::Unexpected)
+                }
+            }
         }
     }
 
@@ -187,10 +193,16 @@ impl Controller {
         ensures { λ r. ⌜ afterEvent self r ≡ clockHeld self ⌝ }
     {
         let turn = self.turn;
+        let enabled = self.registers.timeout / 128 == 1;
         match turn {
-            Turn::Off | Turn::Host(_, _) => self.refuse(Refusal::Unexpected),
+            Turn::Off | Turn::Host(_, _) => {
+                if turn.is_lost() & enabled {
+                    EventEffect::ChangesStatus(0x78)
+                } else {
+                    self.refuse(Refusal::Unexpected)
+                }
+            }
             _ => {
-                let enabled = self.registers.timeout / 128 == 1;
                 if enabled {
                     self.give(0x78, 0)
                 } else {

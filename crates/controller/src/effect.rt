@@ -69,6 +69,8 @@ pub enum EventEffect {
     Received(u8),
     // Status, byte, value: the same, and the move ends with the status.
     ReceivedLast(u8, u8, u8),
+    // Another status where SI is 1 already: the hand place stays.
+    ChangesStatus(u8),
     Reset,
 }
 
@@ -134,6 +136,7 @@ impl EventEffect {
             EventEffect::SentLast(_, byte) => Answer::Accepted(byte),
             EventEffect::Received(_) => Answer::Accepted(0),
             EventEffect::ReceivedLast(_, _, value) => Answer::Accepted(value),
+            EventEffect::ChangesStatus(_) => Answer::Accepted(0),
             EventEffect::Reset => Answer::Accepted(0),
         }
     }

@@ -5,6 +5,7 @@ use crate::effect::WriteEffect;
 use crate::record::Controller;
 use answer::Answer;
 use answer::Refusal;
+use control::turn::Edge;
 use control::turn::Turn;
 ghost use mathlib.Core.Bool.{true};
 ghost use mathlib.Core.Path.{_≡_};
@@ -112,6 +113,7 @@ impl Controller {
             EventEffect::ReceivedLast(status, byte, value) => self.with_place(self.cursor(), byte)
                 .ended(status)
                 .accepted(value),
+            EventEffect::ChangesStatus(status) => self.with_status(status, Edge::Stop).accepted(0),
             EventEffect::Reset => self.reset().accepted(0),
         }
     }

@@ -5,6 +5,7 @@ use crate::result::end_at;
 use crate::result::end_noted;
 use crate::result::end_with;
 use answer::ending::Ending;
+use control::turn::Edge;
 use control::turn::Turn;
 use controller::effect::EventEffect;
 use service::job::Job;
@@ -66,6 +67,7 @@ pub(crate) fn run_pairs(
                 c.buffer[last] = byte;
                 c = c.ended(status);
             }
+            EventEffect::ChangesStatus(status) => c = c.with_status(status, Edge::Stop),
             EventEffect::Reset => c = c.reset(),
         }
         let answer = effect.answer();

@@ -6,13 +6,14 @@ use mathlib.Core.Path.{_≡_, refl, _∙_}
 use Prim.Native.Nat.{ℕ, _≤_}
 use lib.Dec.{T, lit≤}
 use Rattle.control.specs.Turn.{off, host, free, busy, listen, dataTurns, kind, statusOf}
+use Rattle.control.specs.declared.turn.Edge.the-variants.{Stop}
 use Rattle.control.specs.declared.turn.Edge.{Edge}
 use Rattle.control.specs.declared.turn.Turn.the-variants as turn
 use Rattle.control.specs.declared.turn.Turn.{Turn}
 use Rattle.controller.proofs.SoundParts.{parts, whole}
 use Rattle.controller.specs.Record.{givenStatuses, hostSound, moveSound, sound}
 use Rattle.controller.specs.Setters.{withTurn, withHand}
-use Rattle.controller.specs.Reply.{Outcome, refuses, accepts, waitsFor, interruptsAt}
+use Rattle.controller.specs.Reply.{Outcome, refuses, accepts, waitsFor, withStatus, interruptsAt, changesStatus}
 use Rattle.controller.specs.declared.record.Controller.{Controller}
 use Rattle.notation.proofs.Among.{is-true, has, among-has}
 use Rattle.notation.proofs.Cases.{if-true, if-false, split}
@@ -49,15 +50,20 @@ quiet-sound c r q =
     })
 
 -- Host at a status that the rules give
+pub given-sound : (status : ℕ) (edge : Edge) → T (has givenStatuses status) → hostSound (turn.Host status edge) ≡ true
+unfolding hostSound kind statusOf
+given-sound status edge g =
+    if-true (among host (host ∷ [])) _ _ (among-has host (host ∷ [])) ∙ among-has status givenStatuses ∙ is-true _ g
+
 pub host-sound : (c : Controller) (status : ℕ) (edge : Edge) → Ranges c → T (has givenStatuses status) → c .turn ≡ turn.Host status edge → sound c ≡ true
-unfolding hostSound moveSound kind statusOf
+unfolding moveSound kind
 host-sound c status edge r g e =
     whole c (record {
       pointer = r .pointer;
       hand = r .hand;
       moved = r .moved;
       speed = r .speed;
-      host = rw e (if-true (among host (host ∷ [])) _ _ (among-has host (host ∷ [])) ∙ among-has status givenStatuses ∙ is-true _ g);
+      host = rw e (given-sound status edge g);
       move = rw e (if-false (among host dataTurns) _ _ (among-has host dataTurns));
     })
 
@@ -83,6 +89,12 @@ interrupted c status edge v r g =
     (host-sound (withHand (withTurn c (turn.Host status edge)) 0) status edge
     (record { pointer = r .pointer; hand = lit≤ tt; moved = r .moved; speed = r .speed }) g refl)
 
+pub status-changed : (c : Controller) (status : ℕ) → Ranges c → T (has givenStatuses status) → Kept (changesStatus c status)
+unfolding changesStatus
+status-changed c status r g =
+    accepted _ 0
+    (host-sound (withStatus c status Stop) status Stop (record { pointer = r .pointer; hand = r .hand; moved = r .moved; speed = r .speed }) g refl)
+
 pub either : (b : Bool) (x y : Outcome) → Kept x → Kept y → Kept (if b then x else y)
 either b x y p q = split Kept b x y (λ e. p) (λ e. q)
 
@@ -102,4 +114,4 @@ pub off-quiet : Quiet turn.Off
 unfolding kind
 off-quiet = (among-has off (host ∷ []), among-has off dataTurns)
 
-pub ruleset ends = (refused, accepted, waiting, interrupted, either, free-quiet, busy-quiet, listen-quiet, off-quiet, ranges, tt)
+pub ruleset ends = (refused, accepted, waiting, interrupted, status-changed, either, free-quiet, busy-quiet, listen-quiet, off-quiet, ranges, tt)

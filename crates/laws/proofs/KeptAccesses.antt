@@ -1,14 +1,13 @@
 -- Reads and writes of a sound record leave a sound one. Assumes nothing.
-use mathlib.Core.Bool.{Bool, true, false}
+use mathlib.Core.Bool.{Bool, true, false, true≢false}
 use mathlib.Core.List.{List, [], _∷_}
-use mathlib.Core.Path.{_≡_, refl, sym, _∙_}
+use mathlib.Core.Path.{_≡_, refl, sym, ap, _∙_}
 use Prim.Native.Nat.{ℕ, _≤_, _+_, _%_}
 use native.Mathlib.Omega.{arith}
 use borrow.Author.Tests.{eqb-false, ltb-false, le-leb, lt-ltb}
 use lib.Dec.{eqb, leb, ltb, lit≤}
 use Rattle.control.specs.Flags.{flagsOf}
-use Rattle.control.specs.Turn.{off, host, free, busy, listen, address, send, receive, slaveReceive, slaveSend, stopping, restarting}
-use Rattle.control.specs.Turn.{wireTurns, dataTurns, kind, statusOf, edgeOf}
+use Rattle.control.specs.Turn.{off, host, wireTurns, dataTurns, kind, statusOf, edgeOf, lost}
 use Rattle.control.specs.Writing.{endOr, afterEdge, respondsAt, response}
 use Rattle.control.specs.declared.flags.Control.{Control}
 use Rattle.control.specs.declared.turn.Edge.the-variants.{Stop, Start}
@@ -26,10 +25,10 @@ use Rattle.controller.specs.Registers.{wrote, writePointer, readData, writeData
 use Rattle.controller.specs.Reset.{resetWith, completesReset, writePreset}
 use Rattle.controller.specs.declared.record.Controller.{Controller}
 use Rattle.controller.specs.declared.record.Registers.{Registers}
-use Rattle.notation.proofs.Among.{among-has, without}
+use Rattle.notation.proofs.Among.{has, among-has, without}
 use Rattle.notation.proofs.Cases.{if-false, and-true, and-on, and-no-left, and-no-right, or-false, or-left-off, or-right-off, split}
 use Rattle.notation.specs.Choice.{if_then_else_, _and_, _or_, among}
-use Rattle.laws.proofs.Kept.{Kept, ranges, quiet-sound, refused, accepted, either, off-quiet}
+use Rattle.laws.proofs.Kept.{Kept, ranges, quiet-sound, given-sound, refused, accepted, either, off-quiet}
 
 -- the reset record, whatever the buffer holds
 pub reset-sound : (buffer : List ℕ) → sound (resetWith buffer) ≡ true
@@ -104,9 +103,9 @@ write-at-pointer c value s idle =
     })))
 
 -- A write to I2CCON: moved is 0, and BC is in range where a buffered data move starts.
-module _ (c : Controller) (k : Control) (t : Turn) (s : sound c ≡ true) (h : among (kind t) (host ∷ []) ≡ false) where
+module _ (c : Controller) (k : Control) (t : Turn) (s : sound c ≡ true) (h : hostSound t ≡ true) where
   control-written : badCount c k t ≡ false → Kept (controlled c k t)
-  unfolding controlled badCount keeps moveSound hostSound if_then_else_
+  unfolding controlled badCount keeps moveSound if_then_else_
   control-written b =
       let r = ranges c s in
       written _
@@ -115,7 +114,7 @@ module _ (c : Controller) (k : Control) (t : Turn) (s : sound c ≡ true) (h : a
         hand = lit≤ tt;
         moved = lit≤ tt;
         speed = r .speed;
-        host = if-false _ _ _ h;
+        host = h;
         move = moves (k .mode) (among (kind t) dataTurns) b;
       }))
     where
@@ -130,64 +129,69 @@ module _ (c : Controller) (k : Control) (t : Turn) (s : sound c ≡ true) (h : a
           let few = ltb-false 68 (byteCount c) (or-right-off (eqb (byteCount c) 0) (ltb 68 (byteCount c)) f) in
           and-true (ltb 0 (byteCount c)) (leb (byteCount c) 68) (lt-ltb 0 (byteCount c) (omega arith)) (le-leb (byteCount c) 68 few)
 
--- no write leads to Host: SI is cleared
+-- Where a write leads: not to Host, so that SI is cleared, save at 38h; and to Host only at a status that the rules give.
 abbrev NotHost : Response → Type 0
 NotHost (Next t) = among (kind t) (host ∷ []) ≡ false
 NotHost Unlisted = Unit {0}
 
-pub record Clears (r : Response) : Type 0 where
-  pub clears : NotHost r
+abbrev Given : Response → Type 0
+Given (Next t) = hostSound t ≡ true
+Given Unlisted = Unit {0}
 
-choose : (b : Bool) (x y : Response) → Clears x → Clears y → Clears (if b then x else y)
-choose b x y p q = split Clears b x y (λ e. p) (λ e. q)
+pub record Clears (at38h : Bool) (r : Response) : Type 0 where
+  pub clears : at38h ≡ false → NotHost r
+  pub given : Given r
 
-unlisted : Clears Unlisted
-unlisted = record { clears = tt }
+choose : (at38h b : Bool) (x y : Response) → (b ≡ true → Clears at38h x) → (b ≡ false → Clears at38h y) → Clears at38h (if b then x else y)
+choose at38h b x y p q = split (Clears at38h) b x y p q
 
-leads : (t : Turn) → among (kind t) (host ∷ []) ≡ false → Clears (Next t)
-leads t h = record { clears = h }
+unlisted : (at38h : Bool) → Clears at38h Unlisted
+unlisted at38h = record { clears = λ n. tt; given = tt }
 
-ends-clears : (k : Control) (r : Response) → Clears r → Clears (endOr k r)
+leads : (at38h : Bool) (t : Turn) → has (host ∷ []) (kind t) ≡ false → Clears at38h (Next t)
+unfolding hostSound
+leads at38h t h =
+    let other = among-has (kind t) (host ∷ []) ∙ h in
+    record { clears = λ n. other; given = if-false _ _ _ other }
+
+-- at 38h itself
+stays : (status : ℕ) (edge : Edge) → among status (0x38 ∷ []) ≡ true → Clears (eqb status 0x38) (Next (turn.Host 0x38 edge))
+stays status edge e = record {
+  clears = λ n. absurd (true≢false (sym e ∙ among-has status (0x38 ∷ []) ∙ ap (λ (b : Bool). elim b [ true ↦ true | false ↦ false ]) n));
+  given = given-sound 0x38 edge tt;
+}
+
+ends-clears : (at38h : Bool) (k : Control) (r : Response) → Clears at38h r → Clears at38h (endOr k r)
 unfolding endOr kind
-ends-clears k r h =
-    choose (k .sto) _ _ (leads _ (among-has stopping (host ∷ []))) (choose (k .sta) _ _ (leads _ (among-has restarting (host ∷ []))) h)
+ends-clears at38h k r h = search (choose, leads)
 
-edge-clears : (e : Edge) → Clears (Next (afterEdge e))
+edge-clears : (at38h : Bool) (e : Edge) → Clears at38h (Next (afterEdge e))
 unfolding afterEdge kind
-edge-clears Stop = leads _ (among-has free (host ∷ []))
-edge-clears Start = leads _ (among-has listen (host ∷ []))
+edge-clears at38h Stop = search leads
+edge-clears at38h Start = search leads
 
-status-clears : (status : ℕ) (edge : Edge) (k : Control) → Clears (respondsAt status edge k)
+status-clears : (status : ℕ) (edge : Edge) (k : Control) → Clears (eqb status 0x38) (respondsAt status edge k)
 unfolding respondsAt kind
-status-clears status edge k =
-    choose _ _ _ (choose _ _ _ unlisted (leads _ (among-has address (host ∷ []))))
-    (choose _ _ _ (ends-clears k _ (leads _ (among-has send (host ∷ []))))
-    (choose _ _ _ (choose _ _ _ unlisted (leads _ (among-has receive (host ∷ []))))
-    (choose _ _ _ (ends-clears k Unlisted unlisted)
-    (choose _ _ _ (leads _ (among-has busy (host ∷ [])))
-    (choose _ _ _ (leads _ (among-has slaveReceive (host ∷ [])))
-    (choose _ _ _ (leads _ (among-has slaveReceive (host ∷ [])))
-    (choose _ _ _ (leads _ (among-has busy (host ∷ [])))
-    (choose _ _ _ (edge-clears edge)
-    (choose _ _ _ (leads _ (among-has slaveSend (host ∷ []))) unlisted)))))))))
+status-clears status edge k = search (choose, unlisted, leads, stays, ends-clears, edge-clears) depth 30
 
-pub response-clears : (t : Turn) (k : Control) → Clears (response t k)
+pub response-clears : (t : Turn) (k : Control) → Clears (lost t) (response t k)
 unfolding response kind
 response-clears t k =
-    split Clears (among (kind t) (off ∷ [])) _ _ (λ e. leads _ (among-has free (host ∷ [])))
-    (λ e. split Clears (among (kind t) (host ∷ [])) _ _ (λ e. status-clears (statusOf t) (edgeOf t) k) (λ e. leads t e))
+    choose _ (among (kind t) (off ∷ [])) _ _ (λ e. leads _ turn.Free refl)
+    (λ e. choose _ (among (kind t) (host ∷ [])) _ _ (λ e. status-clears (statusOf t) (edgeOf t) k)
+    (λ e. leads _ t (sym (among-has (kind t) (host ∷ [])) ∙ e)))
 
-enabling : (c : Controller) (k : Control) (r : Response) → sound c ≡ true → Clears r → Kept (enabled c k r)
+enabling : (c : Controller) (k : Control) (at38h : Bool) (r : Response) → sound c ≡ true → Clears at38h r → Kept (enabled c k r)
 unfolding enabled
-enabling c k Unlisted s h = refused c 5 s
-enabling c k (Next t) s h = split Kept (badCount c k t) _ _ (λ e. refused c 6 s) (λ e. control-written c k t s (h .clears) e)
+enabling c k at38h Unlisted s h = refused c 5 s
+enabling c k at38h (Next t) s h = split Kept (badCount c k t) _ _ (λ e. refused c 6 s) (λ e. control-written c k t s (h .given) e)
 
 write-flags : (c : Controller) (k : Control) → sound c ≡ true → Kept (writeFlags c k)
-unfolding writeFlags badCount
+unfolding writeFlags badCount hostSound
 write-flags c k s =
     either _ _ _ (refused c 4 s)
-    (either (k .ensio) _ _ (enabling c k (response (c .turn) k) s (response-clears (c .turn) k))
-    (control-written c (withoutStart k) turn.Off s (off-quiet .0) (and-no-right (k .mode) _ (and-no-left _ _ (off-quiet .1)))))
+    (either (k .ensio) _ _ (enabling c k _ (response (c .turn) k) s (response-clears (c .turn) k))
+    (control-written c (withoutStart k) turn.Off s (if-false _ _ _ (off-quiet .0)) (and-no-right (k .mode) _ (and-no-left _ _ (off-quiet .1)))))
 
 write-control : (c : Controller) (value : ℕ) → sound c ≡ true → Kept (writeControl c value)
 unfolding writeControl

@@ -7,3 +7,4 @@ pub mod KeptAccesses
 pub mod Soundness
 pub mod InPlace
 pub mod Status
+pub mod Status38h

@@ -18,7 +18,7 @@ use Rattle.controller.specs.Condition.{outbid, addressLost, dataLost, illegalEd
 use Rattle.controller.specs.Event.{eventSound, eventOf}
 use Rattle.controller.specs.I2ccon.{controlled, enabled, writeFlags, writeControl}
 use Rattle.controller.specs.Registers.{wrote, writePointer, readData, writeData, writeAtPointer}
-use Rattle.controller.specs.Reply.{Outcome, refuses, accepts, waitsFor, interruptsAt}
+use Rattle.controller.specs.Reply.{Outcome, refuses, accepts, waitsFor, interruptsAt, changesStatus}
 use Rattle.controller.specs.Reset.{writePreset}
 use Rattle.controller.specs.Transfer.{dataOut, byteOut, dataIn, slaveIn, byteIn}
 use Rattle.controller.specs.declared.record.Controller.{Controller}
@@ -51,11 +51,15 @@ interrupted : (c d : Controller) (s : ℕ) (e : Edge) (v : ℕ) → Stays c (int
 unfolding interruptsAt
 interrupted c d s e v = accepted c _ v
 
+status-changed : (c d : Controller) (s : ℕ) → Stays c (changesStatus d s)
+unfolding changesStatus
+status-changed c d s = accepted c _ 0
+
 written : (c d : Controller) → Stays c (wrote d)
 unfolding wrote
 written c d = accepted c _ 0
 
-ruleset ends = (refused, accepted, either, waiting, interrupted, written)
+ruleset ends = (refused, accepted, either, waiting, interrupted, status-changed, written)
 
 own-start : (c : Controller) → Stays c (ownStart c)
 unfolding ownStart

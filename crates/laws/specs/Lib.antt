@@ -1,2 +1,3 @@
 -- Claims about the rules, stated apart from their proofs.
 pub mod Addresses
+pub mod Status38h

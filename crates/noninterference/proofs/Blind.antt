@@ -28,7 +28,7 @@ use Rattle.controller.specs.I2ccon.{badCount, controlled, enabled, writeFlags, 
 use Rattle.controller.specs.Record.{place, sound, moveSound}
 use Rattle.controller.specs.Setters.{withBuffer, withHand, withTurn}
 use Rattle.controller.specs.Registers.{wrote, writePointer, readData, writeData, atPointer, writeAtPointer}
-use Rattle.controller.specs.Reply.{Outcome, refuses, accepts, waitsFor, interruptsAt}
+use Rattle.controller.specs.Reply.{Outcome, refuses, accepts, waitsFor, interruptsAt, changesStatus}
 use Rattle.controller.specs.Reset.{resetWith, completesReset, writePreset}
 use Rattle.controller.specs.Transfer.{cursor, isLast, acknowledgesLast, received, dataOut, addressStatus, byteOut, dataIn, slaveIn, byteIn}
 use Rattle.controller.specs.declared.record.Controller.{Controller}
@@ -67,6 +67,11 @@ unfolding interruptsAt accepts
 interrupting c d b s s′ e v v′ q w h =
     record { next = ap (λ (n : ℕ). blank (withHand (withTurn d (Host n e)) 0)) q; refused = refl; value = w; sized = h }
 
+changing : (c d : Controller) (b : List ℕ) (s : ℕ) → length (d .buffer) ≡ length (c .buffer) →
+    Blind c (changesStatus d s) (changesStatus (withBuffer d b) s)
+unfolding changesStatus
+changing c d b s h = accepting c _ b 0 0 refl h
+
 writing : (c d : Controller) (b : List ℕ) → length (d .buffer) ≡ length (c .buffer) → Blind c (wrote d) (wrote (withBuffer d b))
 unfolding wrote
 writing c d b h = accepting c _ b 0 0 refl h
@@ -82,7 +87,7 @@ kept c = refl
 same : (n : ℕ) → n ≡ n
 same n = refl
 
-ruleset ends = (refusing, accepting, waiting, interrupting, writing, either, kept, same, length-set)
+ruleset ends = (refusing, accepting, waiting, interrupting, changing, writing, either, kept, same, length-set)
 
 own-start : (c : Controller) (b : List ℕ) → Blind c (ownStart c) (ownStart (withBuffer c b))
 unfolding ownStart

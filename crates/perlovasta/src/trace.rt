@@ -2,6 +2,7 @@
 use crate::log::log_entry;
 use crate::memory::put_eight;
 use answer::Answer;
+use control::turn::Edge;
 use control::turn::Turn;
 use controller::effect::EventEffect;
 use controller::effect::ReadEffect;
@@ -93,6 +94,7 @@ pub(crate) fn put_log(start: Controller, trace: &[u8], log: &mut [u8])
                         c.buffer[cursor] = byte;
                         c = c.ended(status);
                     }
+                    EventEffect::ChangesStatus(status) => c = c.with_status(status, Edge::Stop),
                     EventEffect::Reset => c = c.reset(),
                 }
             }

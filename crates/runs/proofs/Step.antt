@@ -1,5 +1,5 @@
 -- One event of a job, by any table: what the lemmas about each event are made of. Assumes nothing.
-use mathlib.Core.Bool.{Bool, true, false}
+use mathlib.Core.Bool.{Bool, true, false, false≢true}
 use mathlib.Core.List.{List, [], _∷_, _++_}
 use mathlib.Core.Path.{_≡_, refl, sym, ap, subst, _∙_}
 use Prim.Native.Nat.{ℕ, suc, _≤_}
@@ -9,7 +9,8 @@ use Rattle.address.specs.Matching.{matchOf}
 use Rattle.address.specs.declared.matching.Match.the-variants.{Nothing}
 use Rattle.answer.specs.Ending.{numberOf}
 use Rattle.answer.specs.declared.ending.Ending.{Ending}
-use Rattle.control.specs.Turn.{statusOf}
+use Rattle.control.proofs.Turning.{idle-not-lost}
+use Rattle.control.specs.Turn.{host, statusOf, lost}
 use Rattle.control.specs.declared.turn.Edge.the-variants.{Stop}
 use Rattle.control.specs.declared.turn.Turn.the-variants as turn
 use Rattle.controller.specs.Condition.{matches}
@@ -19,7 +20,7 @@ use Rattle.controller.specs.Setters.{withHand, withTurn}
 use Rattle.controller.specs.declared.record.Controller.{Controller}
 use Rattle.driver.specs.Run.{taking}
 use Rattle.laws.proofs.Addresses.{silent-without-aa}
-use Rattle.notation.proofs.Among.{has, every, same, clash}
+use Rattle.notation.proofs.Among.{has, every, same, apart, clash}
 use Rattle.runs.proofs.Invariant.{In, jobTurns, earlyTurns, limit, carriedAfter, sentAfter, Good, Stepped, ended, going}
 use Rattle.runs.proofs.Lines.{Line}
 use Rattle.service.proofs.AnyTable.{at-idle, at-status}
@@ -86,6 +87,10 @@ module _ {job : Job} {payload carried : List ℕ} {sent : ℕ} {p : Progress} (g
   -- the turn is one that a job waits in
   pub here : (ls : List ℕ) → T (every (λ k. same (has ls k) false) jobTurns) → In p ls → ⊥
   here ls t e = clash _ jobTurns ls t (g .turn) e
+
+  -- so it is not Host, at 38h or any other status
+  pub not-lost : lost (p .controller .turn) ≡ true → ⊥
+  not-lost e = absurd (false≢true (sym (idle-not-lost _ (apart _ jobTurns (host ∷ []) tt (g .turn))) ∙ e))
 
   -- events but 6 and 7 send and receive nothing
   pub keep : (number argument : ℕ) (q : Progress) → eqb number 7 ≡ false → eqb number 6 ≡ false → Good job payload carried sent q →

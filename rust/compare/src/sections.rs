@@ -1,7 +1,7 @@
 //! What a comparison has to reach, each with its count.
 
 use crate::table::{Cell, Section};
-use crate::tally::{EVENTS, Tally, move_index};
+use crate::tally::{EVENTS, LostEnd, Tally, move_index};
 
 /// The statuses that events give.
 pub const GIVEN: [u8; 28] = [
@@ -48,6 +48,7 @@ fn trace_sections(tally: &Tally) -> Vec<Section> {
         Cell::new("pin", tally.event[14]),
         Cell::new("software", tally.software_reset),
     ];
+    let kept = vec![Cell::new("write with ENSIO 1", tally.lost_kept)];
     let not_run = ["length", "kind of a group", "length of the log"];
     let not_run = not_run.into_iter().zip(tally.not_run);
     vec![
@@ -58,6 +59,8 @@ fn trace_sections(tally: &Tally) -> Vec<Section> {
             .noting("refusal 10: not reachable from a fresh controller"),
         Section::new("event accepted", events.collect()),
         Section::new("reset by", resets),
+        Section::new("38h left by", lost_ends(tally)),
+        Section::new("38h kept by", kept),
         Section::new("move finished", moves(tally)),
         Section::new("combination tried", combinations(tally)),
         Section::new(
@@ -65,6 +68,18 @@ fn trace_sections(tally: &Tally) -> Vec<Section> {
             not_run.map(|(l, c)| Cell::new(l, c)).collect(),
         ),
     ]
+}
+
+fn lost_ends(tally: &Tally) -> Vec<Cell> {
+    let ends = [
+        ("another's STOP", LostEnd::OtherStop),
+        ("time-out", LostEnd::TimeOut),
+        ("reset pin", LostEnd::ResetPin),
+        ("software reset", LostEnd::SoftwareReset),
+        ("ENSIO 0", LostEnd::Disabled),
+    ];
+    ends.map(|(name, end)| Cell::new(name, tally.lost_left[end as usize]))
+        .into()
 }
 
 fn moves(tally: &Tally) -> Vec<Cell> {
@@ -144,6 +159,8 @@ mod tests {
         assert!(missing.contains(&"status given A0h".to_owned()));
         assert!(missing.contains(&"turn entered SlaveReceive GC".to_owned()));
         assert!(missing.contains(&"refusal 9".to_owned()));
+        assert!(missing.contains(&"38h left by another's STOP".to_owned()));
+        assert!(missing.contains(&"38h kept by write with ENSIO 1".to_owned()));
         assert!(missing.contains(&"job answered 29".to_owned()));
         assert!(missing.contains(&"combination tried turn and event, of 182".to_owned()));
         assert!(!missing.contains(&"refusal 10".to_owned()));

@@ -15,6 +15,8 @@ const NO_STATUS: u8 = 0xF8;
 const FAULTS: [u8; 3] = [0x00, 0x70, 0x78];
 /// The statuses at which the address byte is to be sent.
 const STARTED: [u8; 2] = [0x08, 0x10];
+/// The status of lost arbitration, which no write with ENSIO 1 ends.
+pub const LOST: u8 = 0x38;
 
 /// Chooses the groups of one trace.
 #[derive(Clone, Debug)]
@@ -57,6 +59,9 @@ impl Steering {
 
     fn by_turn(&mut self, controller: &Controller, random: &mut Random) -> Group {
         match controller.turn() {
+            Turn::Host { status: LOST, .. } if random.percent(50) => {
+                event(pair::next(controller, random, self.noise))
+            }
             Turn::Host { status, .. } => self.serve(status, random),
             Turn::Off => self.switch_on(random),
             Turn::Free | Turn::Busy | Turn::Listen if random.percent(30) => {

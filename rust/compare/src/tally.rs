@@ -1,7 +1,10 @@
 //! How often each thing occurred that a comparison has to reach.
 
 mod job;
+mod lost;
 mod trace;
+
+pub use lost::LostEnd;
 
 use crate::trace_case::Flaw;
 use perlovasta::OUT_LEN;
@@ -32,6 +35,10 @@ pub struct Tally {
     pub event: [u64; EVENTS],
     /// Software resets.
     pub software_reset: u64,
+    /// Ends of 38h, in the order of [`LostEnd`].
+    pub lost_left: [u64; 5],
+    /// I2CCON writes with ENSIO 1 that kept 38h.
+    pub lost_kept: u64,
     /// Moves finished, by [`move_index`].
     pub moves: [u64; 8],
     /// Events given in each turn, accepted or refused.
@@ -69,6 +76,8 @@ impl Tally {
             refusal: [0; 11],
             event: [0; EVENTS],
             software_reset: 0,
+            lost_left: [0; 5],
+            lost_kept: 0,
             moves: [0; 8],
             event_in_turn: [[0; TURNS]; EVENTS],
             control_at: [[0; 16]; 32],

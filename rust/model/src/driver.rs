@@ -80,7 +80,8 @@ pub enum Answer {
     AddressNacked,
     /// A data byte was NACKed, after own STOP.
     DataNacked,
-    /// Arbitration lost.
+    /// Arbitration lost: "the driver still writes 40h, and the record stays
+    /// at 38h" (document 02, Ask 2), where no job can begin.
     Lost,
     /// 00h, 70h or 78h; left so.
     Fault,

@@ -18,6 +18,12 @@ const STATUSES: [u8; 28] = [
     0x80, 0x88, 0xA0, 0xA8, 0xB0, 0xB8, 0xC0, 0xC8, 0xD0, 0xD8, 0xE0, 0xE8,
 ];
 
+/// Arbitration lost.
+const LOST: Turn = Turn::Host {
+    status: 0x38,
+    edge: Edge::Stop,
+};
+
 const WIRE_TURNS: [Turn; 8] = [
     Turn::Address,
     Turn::Send,
@@ -170,7 +176,7 @@ fn in_turn(turn: Turn, sta: u8) -> Controller {
         Turn::Off => Controller::fresh(),
         Turn::Free => then(enabled(), ENSIO | sta, 10, 0),
         Turn::Busy => {
-            let mut c = at(0x38);
+            let mut c = at(0x88);
             write(&mut c, 3, ENSIO | sta);
             c
         }
@@ -756,7 +762,8 @@ fn expected_after(status: u8, edge: Edge, value: u8) -> Result<Turn, u8> {
         (0x48 | 0x58, false, false) => Err(5),
         (0x40 | 0x50, false, false) => Ok(Turn::Receive),
         (0x40 | 0x50, _, _) => Err(5),
-        (0x38 | 0x88 | 0xE8 | 0xC0 | 0xC8, _, _) => Ok(Turn::Busy),
+        (0x38, _, _) => Ok(LOST),
+        (0x88 | 0xE8 | 0xC0 | 0xC8, _, _) => Ok(Turn::Busy),
         (0x60 | 0x68 | 0x80, _, _) => Ok(Turn::SlaveReceive(Called::Own)),
         (0xD0 | 0xD8 | 0xE0, _, _) => Ok(Turn::SlaveReceive(Called::General)),
         (0xA0, _, _) if edge == Edge::Stop => Ok(Turn::Free),
@@ -774,9 +781,10 @@ fn check_control_write(start: &Controller, value: u8, expected: Result<Turn, u8>
         Ok(turn) => {
             write(&mut c, 3, value);
             assert_eq!(c.turn(), turn, "{start:?} {value:02X}");
-            assert_eq!(c.status(), 0xF8);
+            let (status, si) = if turn == LOST { (0x38, SI) } else { (0xF8, 0) };
+            assert_eq!(c.status(), status);
             assert_eq!((c.hand(), c.moved()), (0, 0));
-            let mut control = value & (AA | ENSIO | STA | MODE);
+            let mut control = si | value & (AA | ENSIO | STA | MODE);
             if turn == Turn::Off {
                 control &= !STA;
             }
@@ -837,6 +845,8 @@ fn both_sta_and_sto() {
 /// The events accepted in a turn, with argument 0 (event 8: below A0h).
 fn expected_events(turn: Turn, sta: bool, te: bool) -> Vec<u8> {
     let mut events = match turn {
+        LOST if te => return vec![3, 12, 14],
+        LOST => return vec![3, 14],
         Turn::Off | Turn::Host { .. } => return vec![14],
         Turn::Free if sta => vec![1, 2, 11],
         Turn::Free => vec![2],
@@ -1231,6 +1241,149 @@ fn event_12_needs_te_in_wire_turns() {
     }
 }
 
+// Status 38h (document 02, Ask 2).
+
+/// At 38h with this I2CTO: as reached, and after each I2CCON write with
+/// ENSIO 1. BC is 0, and the hand place 3.
+fn lost_records(timeout: u8) -> Vec<Controller> {
+    let mut reached = at(0x18);
+    set(&mut reached, 4, timeout);
+    set(&mut reached, 0, 3);
+    write(&mut reached, 3, ENSIO | MODE);
+    for (event, argument) in [(6, 0), (6, 0), (9, 0)] {
+        take(&mut reached, event, argument);
+    }
+    assert_eq!((reached.turn(), reached.moved()), (LOST, 2));
+    set(&mut reached, 0, 0);
+
+    let mut records = vec![reached.clone()];
+    for value in (0..=255).filter(|value| value & ENSIO != 0) {
+        let mut written = reached.clone();
+        write(&mut written, 3, value);
+        records.push(written);
+    }
+    for record in &mut records {
+        (0..3).for_each(|value| write(record, 1, value));
+        assert_eq!(record.hand(), 3);
+    }
+    records
+}
+
+#[test]
+fn every_control_write_at_38h() {
+    for c in lost_records(0xFF) {
+        for value in 0..=255 {
+            check_control_write(&c, value, expected_after(0x38, Edge::Stop, value));
+        }
+    }
+}
+
+/// "Both are expected at 38h with SI 1": events 3 and 12. The hand place
+/// stays, as SI doesn't become 1, and so does the moved count.
+fn check_event_at_38h(before: &Controller, event: u8, te: bool) {
+    let mut c = before.clone();
+    let (status, control) = match event {
+        3 => (0xF8, before.control() & !SI),
+        12 if te => (0x78, before.control()),
+        14 => return assert_eq!(after(c, 14, 0).turn(), Turn::Off),
+        _ => return refused(&mut c, 8, |c| c.event(event, 0)),
+    };
+    assert_eq!(c.event(event, 0), Ok(0));
+    assert_eq!((c.status(), c.control()), (status, control));
+    assert_eq!(c.turn() == Turn::Free, event == 3);
+    assert_eq!((c.hand(), c.moved()), (before.hand(), before.moved()));
+    assert_eq!(c.buffer(), before.buffer());
+}
+
+#[test]
+fn every_event_at_38h() {
+    for timeout in [0x00, 0x7F, 0x80, 0xFF] {
+        for before in lost_records(timeout) {
+            (1..=14).for_each(|event| check_event_at_38h(&before, event, timeout & 0x80 != 0));
+        }
+    }
+}
+
+#[derive(Clone, Copy, Debug)]
+enum Step {
+    Read(u8),
+    Write(u8, u8),
+    Event(u8, u8),
+}
+
+/// Every access and every event, and the first numbers that there aren't.
+fn steps() -> Vec<Step> {
+    let values = |number: u8| (0..=255).map(move |value| (number, value));
+    let writes = (0..=4).flat_map(values);
+    let events = (0..=15).flat_map(values);
+    (0..=4)
+        .map(Step::Read)
+        .chain(writes.map(|(register, value)| Step::Write(register, value)))
+        .chain(events.map(|(event, argument)| Step::Event(event, argument)))
+        .collect()
+}
+
+/// "38h is left only by time-out, reset or an outside STOP", and by a write
+/// with ENSIO 0.
+fn leaves_38h(before: &Controller, te: bool, step: Step) -> bool {
+    match step {
+        Step::Event(3 | 14, 0) => true,
+        Step::Event(12, 0) => te,
+        // The software reset: it is armed with the pointer at 05h alone.
+        Step::Write(2, 0x5A) => before.armed(),
+        Step::Write(3, value) => value & ENSIO == 0,
+        _ => false,
+    }
+}
+
+fn check_step_at_38h(before: &Controller, te: bool, step: Step) {
+    let mut c = before.clone();
+    let result = match step {
+        Step::Read(register) => c.read(register),
+        Step::Write(register, value) => c.write(register, value),
+        Step::Event(event, argument) => c.event(event, argument),
+    };
+    let leaves = leaves_38h(before, te, step);
+    assert_eq!(c.turn() != LOST, leaves, "{step:?} {before:?}");
+    assert_eq!(c.status() != 0x38, leaves, "{step:?} {before:?}");
+    assert!(!leaves || result.is_ok(), "{step:?} {before:?}");
+}
+
+/// The record with each pointer, and armed.
+fn by_pointer(record: &Controller) -> Vec<Controller> {
+    let mut records = vec![record.clone(); 9];
+    for (pointer, c) in (0..8).zip(&mut records) {
+        write(c, 0, pointer);
+    }
+    set(&mut records[8], 5, 0xA5);
+    records
+}
+
+#[test]
+fn what_leaves_38h() {
+    let steps = steps();
+    for (timeout, te) in [(0x7F, false), (0xFF, true)] {
+        let records = lost_records(timeout);
+        // As reached, and after a write of all bits.
+        let both = [records.first(), records.last()].into_iter().flatten();
+        for c in both.flat_map(by_pointer) {
+            let check = |&step| check_step_at_38h(&c, te, step);
+            steps.iter().for_each(check);
+        }
+    }
+}
+
+#[test]
+fn sta_written_at_38h_waits_for_the_stop() {
+    let mut c = at(0x38);
+    write(&mut c, 3, ENSIO | STA | STO);
+    refused(&mut c, 8, |c| c.event(1, 0));
+    take(&mut c, 3, 0);
+    assert_eq!((c.turn(), c.control()), (Turn::Free, ENSIO | STA));
+    take(&mut c, 1, 0);
+    assert_eq!(c.status(), 0x08);
+}
+
 // The driver.
 
 #[test]
@@ -1324,20 +1477,80 @@ fn lost_jobs() {
     let ran = run(&mut c, Kind::Write, 1, &[7], &[1, 0, 8, 0x9F, 4, 0]);
     assert_eq!(ran.numbers(), (25, 0, 0, 2));
     ran.sent(&[]);
-    assert_eq!(c.turn(), Turn::Busy);
-    assert_eq!(c.control(), ENSIO);
+    assert_eq!(c.turn(), LOST);
+    // The driver has written 40h, and SI stays 1.
+    assert_eq!(c.control(), ENSIO | SI);
 
     let mut c = enabled();
     let script = [1, 0, 6, 0, 6, 0, 9, 0, 4, 0];
     let ran = run(&mut c, Kind::Write, 2, &[7, 8], &script);
     assert_eq!(ran.numbers(), (25, 0, 0, 4));
     ran.sent(&[0xA0, 7]);
-    assert_eq!(c.turn(), Turn::Busy);
+    assert_eq!((c.turn(), c.moved()), (LOST, 0));
 
     let mut c = enabled();
     let ran = run_read(&mut c, 2, &[1, 0, 6, 0, 7, 3, 9, 0]);
     assert_eq!(ran.numbers(), (25, 0, 0, 4));
     begins(&ran.destination, &[]);
+}
+
+/// Answer 22, whatever the script has, and nothing changes.
+#[track_caller]
+fn not_begun(c: &mut Controller) {
+    let before = c.clone();
+    for script in [&[][..], &[3, 0, 1, 0, 6, 0, 7, 0x5C, 4, 0], &[14, 0]] {
+        assert_eq!(run_read(c, 1, script).numbers(), (22, 0, 0, 0));
+        assert_eq!(*c, before);
+    }
+}
+
+/// A read that is done.
+#[track_caller]
+fn reads(c: &mut Controller) {
+    let ran = run_read(c, 1, &[1, 0, 6, 0, 7, 0x5C, 4, 0]);
+    assert_eq!(ran.numbers(), (0, 0, 1, 4));
+    begins(&ran.destination, &[0x5C]);
+}
+
+#[test]
+fn jobs_after_a_lost_one() {
+    for (kind, script) in [
+        (Kind::Write, &[1, 0, 8, 0x9F][..]),
+        (Kind::Write, &[1, 0, 6, 0, 6, 0, 9, 0]),
+        (Kind::Read, &[1, 0, 8, 0x9F]),
+        (Kind::Read, &[1, 0, 6, 0, 7, 3, 9, 0]),
+    ] {
+        let mut c = enabled();
+        let ran = run(&mut c, kind, 2, &[7, 8], script);
+        assert_eq!(ran.numbers(), (25, 0, 0, script.len() / 2));
+        not_begun(&mut c);
+        // Neither another START, nor an idle bus, nor a write ends the wait.
+        refused(&mut c, 8, |c| c.event(2, 0));
+        refused(&mut c, 8, |c| c.event(13, 0));
+        write(&mut c, 3, ENSIO);
+        not_begun(&mut c);
+        // "Another's STOP then leads to Free with F8h."
+        take(&mut c, 3, 0);
+        assert_eq!((c.turn(), c.status()), (Turn::Free, 0xF8));
+        assert_eq!(c.control(), ENSIO);
+        reads(&mut c);
+    }
+}
+
+#[test]
+fn jobs_after_a_lost_one_and_a_reset() {
+    let mut lost = enabled();
+    let ran = run(&mut lost, Kind::Write, 1, &[7], &[1, 0, 8, 0x9F]);
+    assert_eq!(ran.numbers(), (25, 0, 0, 2));
+    // The time-out leads to a fault, which only a reset ends.
+    let mut faulty = after(lost.clone(), 12, 0);
+    not_begun(&mut faulty);
+    for mut c in [lost, faulty] {
+        take(&mut c, 14, 0);
+        not_begun(&mut c);
+        write(&mut c, 3, ENSIO);
+        reads(&mut c);
+    }
 }
 
 #[test]
@@ -1535,7 +1748,7 @@ fn random_jobs_keep_the_rules_of_lent_bytes() {
         assert!(c.is_sound());
         match answer {
             0 | 23 | 24 => assert_eq!((c.turn(), c.control()), (Turn::Free, ENSIO)),
-            25 => assert_eq!((c.turn(), c.control()), (Turn::Busy, ENSIO)),
+            25 => assert_eq!((c.turn(), c.control()), (LOST, ENSIO | SI)),
             26 => assert!(matches!(c.status(), 0x00 | 0x70 | 0x78)),
             29 => assert_eq!((c.turn(), c.control()), (Turn::Off, 0)),
             _ => {}

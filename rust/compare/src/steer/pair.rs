@@ -2,12 +2,14 @@
 
 use crate::group::{INDIRECT, POINTER};
 use crate::random::Random;
+use crate::steer::LOST;
 use crate::steer::control::STA;
 use model::{Controller, Turn};
 
 const OWN_START: u8 = 1;
 const OTHER_START: u8 = 2;
-const OTHER_STOP: u8 = 3;
+/// Another's STOP.
+pub const OTHER_STOP: u8 = 3;
 const OWN_STOP: u8 = 4;
 const ADDRESS_IN: u8 = 5;
 const BYTE_OUT: u8 = 6;
@@ -17,7 +19,8 @@ const LOST_IN_DATA: u8 = 9;
 /// START or STOP at an illegal place.
 pub const ILLEGAL_EDGE: u8 = 10;
 const SDA_HELD: u8 = 11;
-const SCL_LOW: u8 = 12;
+/// SCL low past the time-out.
+pub const SCL_LOW: u8 = 12;
 const IDLE: u8 = 13;
 /// The reset pin.
 pub const RESET: u8 = 14;
@@ -57,7 +60,7 @@ fn usual(controller: &Controller, random: &mut Random) -> [u8; 2] {
     match controller.turn() {
         Turn::Free if controller.control() & STA != 0 => [OWN_START, 0],
         Turn::Free => [OTHER_START, 0],
-        Turn::Busy => [OTHER_STOP, 0],
+        Turn::Busy | Turn::Host { status: LOST, .. } => [OTHER_STOP, 0],
         Turn::Listen => [ADDRESS_IN, calling_byte(controller, random)],
         Turn::Address | Turn::Send | Turn::SlaveSend => [BYTE_OUT, ACK],
         Turn::Receive | Turn::SlaveReceive(_) => [BYTE_IN, random.byte()],
@@ -82,6 +85,7 @@ fn other(controller: &Controller, random: &mut Random) -> [u8; 2] {
 /// The events of [`other`], those that lead on oftener than faults.
 const fn others(turn: Turn) -> &'static [u8] {
     match turn {
+        Turn::Host { status: LOST, .. } => &[SCL_LOW, SCL_LOW, RESET],
         Turn::Off | Turn::Host { .. } => &[RESET],
         Turn::Free => &[OTHER_START, OTHER_START, ILLEGAL_EDGE, SDA_HELD, SCL_LOW],
         Turn::Busy => &[OTHER_START, OTHER_START, IDLE, IDLE, ILLEGAL_EDGE, SCL_LOW],

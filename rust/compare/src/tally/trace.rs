@@ -2,6 +2,7 @@
 
 use super::{EVENTS, Tally, move_index};
 use crate::group::{CONTROL, EVENT, Group, WRITE};
+use crate::steer::LOST;
 use crate::steer::control::{AA, ENSIO, MODE, STA, STO};
 use perlovasta::{ENTRY_LEN, GROUP_LEN};
 
@@ -71,6 +72,9 @@ impl Tally {
         }
         if before.turn != after.turn {
             self.turn[usize::from(after.turn)] += 1;
+        }
+        if before.status == LOST {
+            self.count_at_lost([kind, place, value], after.status != LOST);
         }
         match (kind, place) {
             (EVENT, _) => self.count_event(place, before, after),

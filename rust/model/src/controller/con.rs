@@ -17,7 +17,9 @@ impl Controller {
             return Err(Refusal::Fault);
         }
 
+        // "STO is stored only where it leads to Stopping": else it stays.
         let mut stored = value & (bit::AA | bit::ENSIO | bit::STA | bit::MODE);
+        stored |= self.con & bit::STO;
         let turn = if value & bit::ENSIO == 0 {
             stored &= !bit::STA;
             Turn::Off
@@ -65,7 +67,8 @@ fn turn_after_status(status: u8, edge: Edge, value: u8) -> Result<Turn, Refusal>
         0x18 | 0x20 | 0x28 | 0x30 => ending(start, stop).unwrap_or(Turn::Send),
         0x40 | 0x50 if !start && !stop => Turn::Receive,
         0x48 | 0x58 => ending(start, stop).ok_or(Refusal::NotListed)?,
-        0x38 => Turn::Busy,
+        // "SI stays 1 and status 38h" (document 02, Ask 2).
+        0x38 => Turn::Host { status, edge },
         0x60 | 0x68 | 0x80 => Turn::SlaveReceive(Called::Own),
         0xD0 | 0xD8 | 0xE0 => Turn::SlaveReceive(Called::General),
         0x88 | 0xE8 | 0xC0 | 0xC8 => Turn::Busy,

@@ -38,14 +38,17 @@ impl Controller {
         }
     }
 
-    /// Leads to Host. SI becomes 1, so the hand place goes back to 0.
+    /// Leads to Host. The hand place goes back to 0 if SI becomes 1; at 38h,
+    /// the one status from which an event gives another, it is 1 already.
     fn give(&mut self, status: u8) {
         self.give_with(status, Edge::Stop);
     }
 
     fn give_with(&mut self, status: u8, edge: Edge) {
+        if !matches!(self.turn, Turn::Host { .. }) {
+            self.hand = 0;
+        }
         self.turn = Turn::Host { status, edge };
-        self.hand = 0;
     }
 
     /// Event 1.
@@ -69,10 +72,10 @@ impl Controller {
         Ok(0)
     }
 
-    /// Event 3.
+    /// Event 3. At 38h it "leads to Free with F8h" (document 02, Ask 2).
     fn other_stop(&mut self) -> Result<u8, Refusal> {
         match self.turn {
-            Turn::Busy => self.turn = Turn::Free,
+            Turn::Busy | Turn::Host { status: 0x38, .. } => self.turn = Turn::Free,
             Turn::SlaveReceive(_) => self.give_with(0xA0, Edge::Stop),
             _ => return Err(Refusal::NotExpected),
         }
@@ -225,10 +228,11 @@ impl Controller {
         Ok(0)
     }
 
-    /// Event 12.
+    /// Event 12. "Expected at 38h with SI 1" too (document 02, Ask 2).
     fn scl_low(&mut self) -> Result<u8, Refusal> {
         match self.turn {
-            Turn::Off | Turn::Host { .. } => return Err(Refusal::NotExpected),
+            Turn::Off => return Err(Refusal::NotExpected),
+            Turn::Host { status, .. } if status != 0x38 => return Err(Refusal::NotExpected),
             _ if !self.has_timeout() => return Err(Refusal::NotExpected),
             _ => self.give(0x78),
         }

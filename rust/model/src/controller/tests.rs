@@ -1,5 +1,6 @@
-//! Soundness and refusal 10, which need records that no access leads to, and
-//! the whole record after the match of events 5 and 8.
+//! Soundness, refusal 10 and a kept STO, which need records that no access
+//! leads to, and the whole record after the match of events 5 and 8 and after
+//! all that can come at 38h.
 
 use super::{Controller, bit};
 use crate::address::Direction;
@@ -209,6 +210,89 @@ fn event_8_by_the_match_for_each_byte_of_ours() {
             c.buffer[0] = ours;
             for winner in 0..=255 {
                 check_event_8(&c, winner);
+            }
+        }
+    }
+}
+
+/// Every I2CCON that a record can hold, SI left out.
+fn controls() -> impl Iterator<Item = u8> {
+    (0..=255).filter(|con| con & (bit::SI | 0x06) == 0)
+}
+
+/// At 38h, armed, with BC 0, the hand place and the moved count not at 0.
+fn lost(con: u8, timeout: u8) -> Controller {
+    let mut c = Controller::fresh();
+    c.turn = host(0x38);
+    (c.con, c.timeout, c.count) = (con, timeout, 0x80);
+    (c.hand, c.moved, c.armed) = (5, 3, true);
+    c
+}
+
+#[test]
+fn control_writes_at_38h() {
+    for con in controls() {
+        let before = lost(con, 0xFF);
+        for value in 0..=255 {
+            let (turn, stored) = if value & bit::ENSIO == 0 {
+                (Turn::Off, value & (bit::AA | bit::MODE))
+            } else {
+                (before.turn, value & !(bit::STO | bit::SI | 0x06))
+            };
+            let mut after = before.clone();
+            (after.turn, after.con) = (turn, con & bit::STO | stored);
+            (after.hand, after.moved, after.armed) = (0, 0, false);
+            let mut c = before.clone();
+            assert_eq!(c.write(3, value), Ok(0));
+            assert_eq!(c, after);
+        }
+    }
+}
+
+/// An event at 38h, against the whole record after it.
+fn check_event_at_38h(before: &Controller, event: u8, argument: u8) {
+    let mut after = before.clone();
+    let expected = match (event, argument) {
+        (3, 0) => {
+            after.turn = Turn::Free;
+            Ok(0)
+        }
+        (12, 0) if before.has_timeout() => {
+            after.turn = host(0x78);
+            Ok(0)
+        }
+        (14, 0) => {
+            after.reset();
+            Ok(0)
+        }
+        (5 | 7 | 8, _) | (6, 1) | (_, 0) => Err(Refusal::NotExpected),
+        _ => Err(Refusal::Argument),
+    };
+    let mut c = before.clone();
+    assert_eq!(c.event(event, argument), expected);
+    assert_eq!(c, after);
+}
+
+#[test]
+fn events_at_38h() {
+    let both = |con| [0x7F, 0x80].map(|timeout| lost(con, timeout));
+    for before in controls().flat_map(both) {
+        for event in 1..=14 {
+            (0..=255).for_each(|argument| check_event_at_38h(&before, event, argument));
+        }
+    }
+}
+
+/// "STO is stored only where it leads to Stopping": elsewhere it stays.
+#[test]
+fn sto_stays_where_it_is_not_stored() {
+    let turns = [Turn::Off, Turn::Free, Turn::Busy, Turn::Listen];
+    for turn in turns.into_iter().chain((0..=255).map(host)) {
+        for (old, value) in controls().flat_map(|old| (0..=255).map(move |value| (old, value))) {
+            let mut c = Controller::fresh();
+            (c.turn, c.con) = (turn, old);
+            if c.write(3, value).is_ok() && c.turn != Turn::Stopping {
+                assert_eq!(c.con & bit::STO, old & bit::STO);
             }
         }
     }

@@ -15,7 +15,7 @@ use Rattle.control.specs.Turn.{statusOf}
 use Rattle.controller.proofs.SoundParts.{parts, cursor-below}
 use Rattle.controller.specs.Effect.{afterEvent}
 use Rattle.controller.specs.Record.{sound}
-use Rattle.controller.specs.Reply.{Outcome, refuses, accepts, waitsFor, interruptsAt}
+use Rattle.controller.specs.Reply.{Outcome, refuses, accepts, waitsFor, interruptsAt, changesStatus}
 use Rattle.controller.specs.declared.effect.EventEffect.{EventEffect}
 use Rattle.controller.specs.declared.record.Controller.{Controller}
 use Rattle.driver.specs.Run.{Run, endedOf, endedResult, run, closes, taking}
@@ -94,7 +94,7 @@ given c = taking (before-pair c) (outcome c .next)
 met : (c : Met) →
     Applied (c .before .before .before .before .before .loop .c) (c .before .event-effect .result) (c .match .c) ×
     (c .match .effect ≡ c .before .event-effect .result)
-unfolding afterEvent accepts waitsFor interruptsAt
+unfolding afterEvent accepts waitsFor interruptsAt changesStatus
 met c =
     ⊎-elim (λ w. (applied (w .1 .given .1) (w .2) refl, w .3))
     (⊎-elim (λ w. (applied (w .1 .given .1) (w .3 ∙ w .2 .ensures) refl, w .4))
@@ -106,7 +106,8 @@ met c =
     (⊎-elim (λ w. (applied (w .1 .given .1) (w .4 ∙ w .3 .ensures) refl, w .5 ∙ sym (w .1 .given .1)))
     (⊎-elim (λ w. (received-applied (w .3 .ensures) (w .1 .given .1) (w .4), w .5 ∙ sym (w .1 .given .1)))
     (⊎-elim (λ w. (received-last-applied (w .3 .ensures) (w .1 .given .1) (w .5 ∙ w .4 .ensures), w .6 ∙ sym (w .1 .given .1)))
-    (λ w. (applied (w .1 .given .1) (w .3 ∙ w .2 .ensures) refl, w .4)))))))))))
+    (⊎-elim (λ w. (applied (w .1 .given .1) (w .4 ∙ w .3 .ensures) refl, w .5 ∙ sym (w .1 .given .1)))
+    (λ w. (applied (w .1 .given .1) (w .3 ∙ w .2 .ensures) refl, w .4))))))))))))
     (c .match .came)
 
 same : (c : Met) → after c ≡ given c
@@ -431,6 +432,8 @@ run-pairs-spec =
     (λ c. search needs)
     element-write-c-2
     ended-requires-2
+    (λ c. search needs)
+    (λ c κs. search needs)
     (λ c. search needs)
     (λ c κs. search needs)
     (λ c κs. search needs)

@@ -11,7 +11,7 @@ use Rattle.controller.proofs.SoundParts.{parts, cursor-below}
 use Rattle.controller.specs.Effect.{afterRead, afterWrite, afterEvent}
 use Rattle.controller.specs.Record.{sound}
 use Rattle.controller.specs.Registers.{wrote}
-use Rattle.controller.specs.Reply.{Outcome, refuses, accepts, waitsFor, interruptsAt}
+use Rattle.controller.specs.Reply.{Outcome, refuses, accepts, waitsFor, interruptsAt, changesStatus}
 use Rattle.controller.specs.Transfer.{received}
 use Rattle.laws.proofs.InPlace.{loaded-below, received-below, received-last-below}
 use Rattle.notation.proofs.Overlay.{at-start, none}
@@ -67,7 +67,7 @@ joined : (c : Met) →
     let l = c .before .before .before .before .before .loop in
     let trace = now (c .before .before .before .before .before .before .before .before .args .trace) in
     leaves (c .match .answer) (c .match .c) ≡ groupOf (l .c) (getD trace (l .i) 0) (getD trace (l .i + 1) 0) (getD trace (l .i + 2) 0)
-unfolding afterRead afterWrite afterEvent refuses accepts wrote waitsFor interruptsAt received
+unfolding afterRead afterWrite afterEvent refuses accepts wrote waitsFor interruptsAt changesStatus received
 joined c =
     let d = c .before .before .before .before .before .loop .c in
     ((λ w. was-read d _ _ _ (w .0 .keys1) (w .1 .ensures) (w .2 .ensures) (w .6) (w .4 .given .1) (w .5))
@@ -91,6 +91,7 @@ joined c =
     or-else (λ w. was-event d _ _ _ (w .0 .rest) (w .1 .ensures) (w .2 .ensures) (w .8) (w .4 .given .1) (w .7 ∙ w .6 .ensures))
     or-else (λ w. was-event d _ _ _ (w .0 .rest) (w .1 .ensures) (w .2 .ensures) (w .8) (w .4 .given .1) (w .7 ∙ rw (w .6 .ensures)))
     or-else (λ w. was-event d _ _ _ (w .0 .rest) (w .1 .ensures) (w .2 .ensures) (w .9) (w .4 .given .1) (w .8 ∙ w .7 .ensures ∙ rw (w .6 .ensures)))
+    or-else (λ w. was-event d _ _ _ (w .0 .rest) (w .1 .ensures) (w .2 .ensures) (w .8) (w .4 .given .1) (w .7 ∙ w .6 .ensures))
     or-else (λ w. was-event d _ _ _ (w .0 .rest) (w .1 .ensures) (w .2 .ensures) (w .7) (w .4 .given .1) (w .6 ∙ w .5 .ensures)))
     (c .match .came)
 
@@ -205,6 +206,8 @@ put-log-spec =
     (λ c. search needs)
     element-write-c-3
     (λ c κs. parts _ (c .before .before .before .before .before .before .before .before .before .before .before .loop .inv .3) .moved)
+    (λ c. search needs)
+    (λ c κs. search needs)
     (λ c. search needs)
     (λ c κs. search needs)
     (λ c κs. stays-sound (c .before))

@@ -2,7 +2,7 @@
 use borrow.Author.Needs.{needs}
 use Rattle.answer.specs.Refusal.{refusalOf, valueOf}
 use Rattle.controller.specs.Effect.{afterEvent}
-use Rattle.controller.specs.Reply.{refuses, accepts, waitsFor, interruptsAt}
+use Rattle.controller.specs.Reply.{refuses, accepts, waitsFor, interruptsAt, changesStatus}
 use Rattle.controller.proofs.effect.EventEffect.answer.Statement.{statement}
 use Rattle.controller.proofs.effect.EventEffect.answer.Tie as tie
 
@@ -51,13 +51,18 @@ unfolding afterEvent refusalOf valueOf refuses accepts waitsFor interruptsAt
 returns-11 c = (λ d. rw (c .before .self5 .given .1), λ d. rw (c .before .self5 .given .1))
 
 returns-12 : tie.Need-returns-12
-unfolding afterEvent refusalOf valueOf refuses accepts waitsFor interruptsAt
+unfolding afterEvent refusalOf valueOf refuses accepts waitsFor interruptsAt changesStatus
 returns-12 c = (λ d. rw (c .enum-told7 .given .1), λ d. rw (c .enum-told7 .given .1))
+
+returns-13 : tie.Need-returns-13
+unfolding afterEvent refusalOf valueOf refuses accepts waitsFor interruptsAt
+returns-13 c = (λ d. rw (c .enum-told8 .given .1), λ d. rw (c .enum-told8 .given .1))
 
 pub answer-spec : {M : Type 1} → statement M
 answer-spec =
     tie.close
     (tie.spec
+    (λ c. search needs)
     (λ c. search needs)
     (λ c. search needs)
     (λ c. search needs)
@@ -81,4 +86,5 @@ answer-spec =
     returns-9
     returns-10
     returns-11
-    returns-12)
+    returns-12
+    returns-13)

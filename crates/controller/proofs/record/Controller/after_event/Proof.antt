@@ -4,7 +4,7 @@ use native.Mathlib.Omega.{arith}
 use borrow.Author.Needs.{needs}
 use Rattle.controller.proofs.SoundParts.{parts}
 use Rattle.controller.specs.Effect.{afterEvent}
-use Rattle.controller.specs.Reply.{waitsFor, interruptsAt}
+use Rattle.controller.specs.Reply.{waitsFor, interruptsAt, changesStatus}
 use Rattle.controller.specs.Transfer.{received}
 use Rattle.controller.specs.declared.record.Controller.{Controller}
 use Rattle.controller.proofs.record.Controller.after_event.Statement.{statement}
@@ -82,8 +82,12 @@ returns-11 c =
     )
 
 returns-12 : tie.Need-returns-12
+unfolding afterEvent changesStatus
+returns-12 c = c .accepted11 .ensures ∙ rw (c .before .with-status .ensures, c .before .before .before .effect7 .given .1)
+
+returns-13 : tie.Need-returns-13
 unfolding afterEvent
-returns-12 c = c .accepted11 .ensures ∙ rw (c .before .reset .ensures, c .before .before .enum-told6 .given .1)
+returns-13 c = c .accepted12 .ensures ∙ rw (c .before .reset .ensures, c .before .before .enum-told6 .given .1)
 
 pub after-event-spec : {M : Type 1} → statement M
 after-event-spec =
@@ -127,6 +131,9 @@ after-event-spec =
     (λ c. search needs)
     (λ c κs. search needs)
     (λ c κs. search needs)
+    (λ c. search needs)
+    (λ c κs. search needs)
+    (λ c κs. search needs)
     returns
     returns-2
     returns-3
@@ -138,4 +145,5 @@ after-event-spec =
     returns-9
     returns-10
     returns-11
-    returns-12)
+    returns-12
+    returns-13)
