@@ -58,7 +58,9 @@ extern "C" {
  *  22  the controller is not ready; not given here, where it is fresh
  *  23  address not acknowledged, after own STOP
  *  24  data byte not acknowledged, after own STOP
- *  25  arbitration lost
+ *  25  arbitration lost. A chip then stays at status 38h until another's
+ *      STOP, a time-out, a reset or ENSIO 0; the library keeps nothing
+ *      between calls, so it is the caller who must wait for that
  *  26  bus fault: status 00h, 70h or 78h
  *  27  the script ended first
  *  28  the event was refused; the refusal's number stands beside it

@@ -147,7 +147,7 @@ def calls(_, text):
                    for words in lines)
 
 
-def lost(raw, text):
+def at_38h(raw, text):
     """Ask 2: how often a group left 38h, or kept it, in each of the ways."""
     found, at_38, lines = Counter(), False, iter(text.splitlines())
     for part in bench.groups(raw)[0]:
@@ -188,7 +188,7 @@ def same(program, raw, want, name):
 # What is counted in random traces and in random jobs, and all that must occur;
 # `job` runs on a fresh controller: never 22, and tells of no call
 IN_TRACES = (("answers", answers, ANSWERS), ("calls", calls, WANTED_CALLS),
-             ("38h", lost, lost_ways.WAYS))
+             ("38h", at_38h, lost_ways.WAYS))
 IN_JOBS = (("answers", answers, ANSWERS - {22}), ("calls", calls, set()))
 
 

@@ -1,7 +1,7 @@
 """Traces with answer 25 and jobs after it, by each way out of 38h."""
 
 from job_steps import LOST_BY, at_once, done_read, done_write, usable_again
-from pairs import ACK, LOST, START
+from pairs import ACK, DATA_LOST, START
 from reach import start
 from trace import Trace
 
@@ -12,12 +12,17 @@ def make_lost_jobs():
     make_lost_fault()
 
 
-def lost_job(t, name):
+def lost_job(t, name, then=""):
     """A job answered 25, and jobs at once; Ask 2: at 38h all along."""
-    t.note("lost by " + name)
+    t.note("lost by " + name + then)
     t.job(25, 0, 0x50, 3, [1, 2, 3], LOST_BY[name])
     at_once(t)
     assert t.c.status() == 0x38
+
+
+def written(values):
+    """Words for what is written to I2CCON."""
+    return "".join(f", then {v:02X}h" for v in values)
 
 
 def control_writes(t, values):
@@ -32,7 +37,7 @@ def make_lost_stop():
     t.wr(3, 0x40, "enabled:")
     for name in LOST_BY:
         for values in ((), (0x40,), (0x60, 0x50), (0xF1, 0x41, 0xC0)):
-            lost_job(t, name)
+            lost_job(t, name, written(values))
             control_writes(t, values)
             t.ev(2, 0, "another's START:")
             t.ev(13, 0, "idle past the time-out:")
@@ -42,7 +47,7 @@ def make_lost_stop():
             done_read(t)
     t.note("lost again at once, and a read that is lost")
     for _ in range(3):
-        t.job(25, 1, 0x50, 2, (), [START, ACK, (7, 0x31), LOST])
+        t.job(25, 1, 0x50, 2, (), [START, ACK, (7, 0x31), DATA_LOST])
         at_once(t)
         t.ev(3, 0, "another's STOP:")
     done_read(t)
@@ -77,7 +82,7 @@ def make_lost_fault():
         for values in ((), (0x60,)):
             start(t)
             t.wr(3, 0x40, "enabled:")
-            lost_job(t, "event 9 amid")
+            lost_job(t, "event 9 amid", written(values) + ", " + way)
             control_writes(t, values)
             t.ev(12, 0, "event 12:")
             control_writes(t, (0x40, 0x00))

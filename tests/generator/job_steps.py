@@ -1,11 +1,11 @@
 """Pieces that several traces with jobs use."""
 
-from pairs import ACK, LOST, START, read_script, write_script
+from pairs import ACK, DATA_LOST, START, read_script, write_script
 
 OTHERS = [(2, 0), (5, 0x40), (3, 0)]     # another's START, address byte, STOP
 # Scripts of a write that end with answer 25
-LOST_BY = {"event 8": [START, (8, 0x40)], "event 9": [START, ACK, LOST],
-           "event 9 amid": [START, ACK, ACK, LOST]}
+LOST_BY = {"event 8": [START, (8, 0x40)], "event 9": [START, ACK, DATA_LOST],
+           "event 9 amid": [START, ACK, ACK, DATA_LOST]}
 
 
 def done_write(t, data=(0x11, 0x22), address=0x50, show=""):

@@ -5,7 +5,7 @@ from job_mix import make_mixes
 from job_old import make_old_contents
 from job_refusals import make_before_jobs, make_refused_jobs
 from job_steps import LOST_BY, at_once, done_read, done_write, usable_again
-from pairs import ACK, LOST, NACK, RESET, START, STOP, read_script
+from pairs import ACK, DATA_LOST, NACK, RESET, START, STOP, read_script
 from reach import dump, fill, pattern, show_registers, start
 from trace import Trace
 
@@ -75,7 +75,7 @@ def make_after_25():
             at_once(t)
             usable_again(t, way)
     t.note("another's STOP makes it Free")
-    t.job(25, 1, 0x50, 2, (), [START, ACK, (7, 0x31), LOST])
+    t.job(25, 1, 0x50, 2, (), [START, ACK, (7, 0x31), DATA_LOST])
     at_once(t)
     t.ev(3, 0, "another's STOP:")
     done_read(t)

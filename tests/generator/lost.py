@@ -27,7 +27,7 @@ def lost(t, regs=()):
     reach(t, "Send", tuple(regs) + ((0, 0x02),), mode=1)
     t.ev(6, 0)
     t.ev(9, 0)
-    t.rd(1)
+    t.rd(1, "at 38h, place 0 read:")
     assert place(t.c) == "38" and (t.c.hand, t.c.moved) == (1, 1)
 
 
@@ -182,6 +182,7 @@ def make_lost_data():
     t.wr(3, 0x41, "hand back to 0:")
     t.rd(1, "place 0:")
     t.rd(1, "place 1:")
+    t.note("places 2 to 67")
     to_end(t)
     t.rd(1, "read, hand 68:")
     t.wr(1, 0x22, "write, hand 68:")
@@ -211,7 +212,8 @@ def armed(t):
 
 
 def make_lost_reset():
-    t = Trace("lost-reset", "The software reset at 38h, and what is between")
+    t = Trace("lost-reset", "The software reset at 38h, and what comes "
+              "between A5h and 5Ah")
     t.note("nothing between")
     armed(t)
     t.wr(2, 0x5A, "5Ah:")

@@ -2,7 +2,7 @@
 
 START, STOP = (1, 0), (4, 0)
 ACK, NACK = (6, 0), (6, 1)           # a byte out, ACKed or NACKed
-LOST, RESET = (9, 0), (14, 0)
+DATA_LOST, RESET = (9, 0), (14, 0)
 ON_A_LINE = 8                        # pairs on one line
 REPEATED = 6                         # equal pairs in a row that are folded
 

@@ -15,7 +15,7 @@ unfoldable pub allShown : List Action → Controller → List Shown
 allShown [] c = []
 allShown (a ∷ actions) c = act a c .shown ∷ allShown actions (act a c .next)
 
--- a read that would be done
+-- the read of case a
 abbrev reading : Action
 reading = job Read 0x50 1 [] (0x01 ∷ 0x00 ∷ 0x06 ∷ 0x00 ∷ 0x07 ∷ 0x5C ∷ 0x04 ∷ 0x00 ∷ [])
 

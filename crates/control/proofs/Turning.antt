@@ -9,7 +9,7 @@ use denote.Enum.Declared.{tagOf}
 use lib.Dec.{T, eqb}
 use types.Run.{OneOf}
 use Rattle.control.specs.Turn.{off, host, free, busy, listen, address, send, receive, slaveReceive, slaveSend, stopping, restarting, kind, statusOf}
-use Rattle.control.specs.Turn.{edgeOf, lost}
+use Rattle.control.specs.Turn.{edgeOf, at38h}
 use Rattle.control.specs.declared.turn.Turn.the-variants.{Off, Host, Free, Busy, Listen}
 use Rattle.control.specs.declared.turn.Turn.the-variants.{Address, Send, Receive, SlaveReceive, SlaveSend, Stopping, Restarting}
 use Rattle.control.specs.declared.turn.Turn.{Turn}
@@ -64,21 +64,21 @@ status-idle SlaveSend e = refl
 status-idle Stopping e = refl
 status-idle Restarting e = refl
 
-pub idle-not-lost : (t : Turn) → among (kind t) (host ∷ []) ≡ false → lost t ≡ false
-idle-not-lost t e = ap (λ (status : ℕ). eqb status 0x38) (status-idle t e)
+pub idle-not-38h : (t : Turn) → among (kind t) (host ∷ []) ≡ false → at38h t ≡ false
+idle-not-38h t e = ap (λ (status : ℕ). eqb status 0x38) (status-idle t e)
 
--- lost is Host at 38h, since out of Host the status is F8h
-pub lost-host : (t : Turn) → lost t ≡ true → t ≡ Host 0x38 (edgeOf t)
+-- status 38h is Host, since out of Host the status is F8h
+pub at38h-host : (t : Turn) → at38h t ≡ true → t ≡ Host 0x38 (edgeOf t)
 unfolding statusOf edgeOf
-lost-host Off e = absurd (false≢true e)
-lost-host (Host s d) e = ap (λ (n : ℕ). Host n d) (eqb-true s 0x38 e)
-lost-host Free e = absurd (false≢true e)
-lost-host Busy e = absurd (false≢true e)
-lost-host Listen e = absurd (false≢true e)
-lost-host Address e = absurd (false≢true e)
-lost-host Send e = absurd (false≢true e)
-lost-host Receive e = absurd (false≢true e)
-lost-host (SlaveReceive w) e = absurd (false≢true e)
-lost-host SlaveSend e = absurd (false≢true e)
-lost-host Stopping e = absurd (false≢true e)
-lost-host Restarting e = absurd (false≢true e)
+at38h-host Off e = absurd (false≢true e)
+at38h-host (Host s d) e = ap (λ (n : ℕ). Host n d) (eqb-true s 0x38 e)
+at38h-host Free e = absurd (false≢true e)
+at38h-host Busy e = absurd (false≢true e)
+at38h-host Listen e = absurd (false≢true e)
+at38h-host Address e = absurd (false≢true e)
+at38h-host Send e = absurd (false≢true e)
+at38h-host Receive e = absurd (false≢true e)
+at38h-host (SlaveReceive w) e = absurd (false≢true e)
+at38h-host SlaveSend e = absurd (false≢true e)
+at38h-host Stopping e = absurd (false≢true e)
+at38h-host Restarting e = absurd (false≢true e)

@@ -94,11 +94,11 @@ statusOf SlaveSend = 0xF8
 statusOf Stopping = 0xF8
 statusOf Restarting = 0xF8
 
--- Host at 38h: arbitration was lost, and the bus has not let go
-abbrev pub lost : Turn → Bool
-lost turn = eqb (statusOf turn) 0x38
+-- Host at 38h: arbitration was lost, and another master has the bus
+abbrev pub at38h : Turn → Bool
+at38h turn = eqb (statusOf turn) 0x38
 
--- at A0h, the bus condition that came; in every other turn `Stop`, which nothing reads
+-- in Host, the bus condition beside the status, which matters at A0h; in every other turn `Stop`, which nothing reads
 unfoldable pub edgeOf : Turn → Edge
 edgeOf Off = Stop
 edgeOf (Host status edge) = edge

@@ -1,9 +1,9 @@
 // The turn: what the controller waits for (document 01's term), with what that wait needs and the record does not hold.
 ghost use mathlib.Core.Path.{_≡_};
 ghost use mathlib.Core.List.{[], _∷_};
-ghost use Rattle.control.specs.Turn.{host, waits, wireTurns, dataTurns, statusOf, lost};
+ghost use Rattle.control.specs.Turn.{host, waits, wireTurns, dataTurns, statusOf, at38h};
 
-// Which bus condition ended a slave reception. It matters at status A0h alone; the rules write `Stop` with every other.
+// Which bus condition ended a slave reception. It matters at status A0h alone; the events write `Stop` with every other.
 pub enum Edge {
     Stop,
     Start,
@@ -18,7 +18,7 @@ pub enum Called {
 // What the controller waits for; Address to Restarting are the wire turns.
 pub enum Turn {
     Off,
-    // SI is 1, and the host has the next move. The status, and at A0h the bus condition.
+    // SI is 1, and the host has the next move (at 38h the bus has it). The status, and at A0h the bus condition.
     Host(u8, Edge),
     Free,
     Busy,
@@ -54,9 +54,9 @@ impl Turn {
         }
     }
 
-    // Host at 38h: arbitration was lost, and the bus has not let go.
-    pub fn is_lost(self) -> bool
-        ensures { λ r. ⌜ r ≡ lost self ⌝ }
+    // Host at 38h: arbitration was lost, and another master has the bus.
+    pub fn is_at_38h(self) -> bool
+        ensures { λ r. ⌜ r ≡ at38h self ⌝ }
     {
         let status = self.status();
         status == 0x38

@@ -8,7 +8,7 @@ use Rattle.address.specs.declared.matching.AddressMatch.{AddressMatch}
 use Rattle.address.specs.declared.matching.Match.the-variants.{Own, General, Nothing}
 use Rattle.address.specs.declared.matching.Match.{Match}
 use Rattle.address.specs.declared.number.Direction.the-variants.{Write, Read}
-use Rattle.control.specs.Turn.{off, host, free, busy, listen, address, send, receive, slaveReceive, stopping, restarting, wireTurns, waits, lost}
+use Rattle.control.specs.Turn.{off, host, free, busy, listen, address, send, receive, slaveReceive, stopping, restarting, wireTurns, waits, at38h}
 use Rattle.control.specs.declared.flags.Control.{Control}
 use Rattle.control.specs.declared.turn.Edge.the-variants.{Stop, Start}
 use Rattle.control.specs.declared.turn.Turn.the-variants.{Free, Busy, Listen}
@@ -42,7 +42,7 @@ unfoldable pub otherStop : Controller → Outcome
 otherStop c =
     if waits (c .turn) (busy ∷ []) then waitsFor c Free 0
     else if waits (c .turn) (slaveReceive ∷ []) then interruptsAt c 0xA0 Stop 0
-    else if lost (c .turn) then waitsFor c Free 0
+    else if at38h (c .turn) then waitsFor c Free 0
     else refuses c 8
 
 -- STO 0, the other flags as they were
@@ -104,7 +104,7 @@ dataHeld c = if wantsBus c or waits (c .turn) (restarting ∷ []) then gives c 0
 -- 12. "SCL low past the time-out, TE 1: 78h"; with SI 0 and not in Off. At 38h "event 12 with TE 1 gives 78h" (document 02, request 2)
 unfoldable pub clockHeld : Controller → Outcome
 clockHeld c =
-    if lost (c .turn) and timeoutEnabled c then changesStatus c 0x78
+    if at38h (c .turn) and timeoutEnabled c then changesStatus c 0x78
     else if waits (c .turn) (off ∷ host ∷ []) then refuses c 8
     else if timeoutEnabled c then gives c 0x78 0
     else refuses c 8

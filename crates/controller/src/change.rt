@@ -42,7 +42,7 @@ impl Controller {
         self.turned(Turn::Free)
     }
 
-    // A status: the host's turn.
+    // A status: Host.
     pub fn with_status(self, status: u8, edge: Edge) -> Controller
         ensures { λ r. ⌜ r ≡ withStatus self status edge ⌝ }
     {

@@ -55,7 +55,7 @@ impl Controller {
             Turn::Busy => EventEffect::Free,
             Turn::SlaveReceive(_) => self.interrupt(0xA0, Edge::Stop, 0),
             _ => {
-                if turn.is_lost() {
+                if turn.is_at_38h() {
                     EventEffect::Free
                 } else {
                     self.refuse(Refusal::Unexpected)
@@ -196,7 +196,7 @@ impl Controller {
         let enabled = self.registers.timeout / 128 == 1;
         match turn {
             Turn::Off | Turn::Host(_, _) => {
-                if turn.is_lost() & enabled {
+                if turn.is_at_38h() & enabled {
                     EventEffect::ChangesStatus(0x78)
                 } else {
                     self.refuse(Refusal::Unexpected)

@@ -1,13 +1,13 @@
 -- Reads and writes of a sound record leave a sound one. Assumes nothing.
 use mathlib.Core.Bool.{Bool, true, false, true≢false}
 use mathlib.Core.List.{List, [], _∷_}
-use mathlib.Core.Path.{_≡_, refl, sym, ap, _∙_}
+use mathlib.Core.Path.{_≡_, refl, sym, _∙_}
 use Prim.Native.Nat.{ℕ, _≤_, _+_, _%_}
 use native.Mathlib.Omega.{arith}
 use borrow.Author.Tests.{eqb-false, ltb-false, le-leb, lt-ltb}
 use lib.Dec.{eqb, leb, ltb, lit≤}
 use Rattle.control.specs.Flags.{flagsOf}
-use Rattle.control.specs.Turn.{off, host, wireTurns, dataTurns, kind, statusOf, edgeOf, lost}
+use Rattle.control.specs.Turn.{off, host, wireTurns, dataTurns, kind, statusOf, edgeOf, at38h}
 use Rattle.control.specs.Writing.{endOr, afterEdge, respondsAt, response}
 use Rattle.control.specs.declared.flags.Control.{Control}
 use Rattle.control.specs.declared.turn.Edge.the-variants.{Stop, Start}
@@ -25,7 +25,7 @@ use Rattle.controller.specs.Registers.{wrote, writePointer, readData, writeData
 use Rattle.controller.specs.Reset.{resetWith, completesReset, writePreset}
 use Rattle.controller.specs.declared.record.Controller.{Controller}
 use Rattle.controller.specs.declared.record.Registers.{Registers}
-use Rattle.notation.proofs.Among.{has, among-has, without}
+use Rattle.notation.proofs.Among.{has, among-has, none-of, without}
 use Rattle.notation.proofs.Cases.{if-false, and-true, and-on, and-no-left, and-no-right, or-false, or-left-off, or-right-off, split}
 use Rattle.notation.specs.Choice.{if_then_else_, _and_, _or_, among}
 use Rattle.laws.proofs.Kept.{Kept, ranges, quiet-sound, given-sound, refused, accepted, either, off-quiet}
@@ -129,7 +129,7 @@ module _ (c : Controller) (k : Control) (t : Turn) (s : sound c ≡ true) (h : h
           let few = ltb-false 68 (byteCount c) (or-right-off (eqb (byteCount c) 0) (ltb 68 (byteCount c)) f) in
           and-true (ltb 0 (byteCount c)) (leb (byteCount c) 68) (lt-ltb 0 (byteCount c) (omega arith)) (le-leb (byteCount c) 68 few)
 
--- Where a write leads: not to Host, so that SI is cleared, save at 38h; and to Host only at a status that the rules give.
+-- Where a write leads: not to Host, so that SI is cleared, save where it is held at 38h; and to Host only at a status that the rules give.
 abbrev NotHost : Response → Type 0
 NotHost (Next t) = among (kind t) (host ∷ []) ≡ false
 NotHost Unlisted = Unit {0}
@@ -138,53 +138,53 @@ abbrev Given : Response → Type 0
 Given (Next t) = hostSound t ≡ true
 Given Unlisted = Unit {0}
 
-pub record Clears (at38h : Bool) (r : Response) : Type 0 where
-  pub clears : at38h ≡ false → NotHost r
+pub record WriteLeads (held : Bool) (r : Response) : Type 0 where
+  pub clears : held ≡ false → NotHost r
   pub given : Given r
 
-choose : (at38h b : Bool) (x y : Response) → (b ≡ true → Clears at38h x) → (b ≡ false → Clears at38h y) → Clears at38h (if b then x else y)
-choose at38h b x y p q = split (Clears at38h) b x y p q
+choose : (held b : Bool) (x y : Response) → (b ≡ true → WriteLeads held x) → (b ≡ false → WriteLeads held y) → WriteLeads held (if b then x else y)
+choose held b x y p q = split (WriteLeads held) b x y p q
 
-unlisted : (at38h : Bool) → Clears at38h Unlisted
-unlisted at38h = record { clears = λ n. tt; given = tt }
+unlisted : (held : Bool) → WriteLeads held Unlisted
+unlisted held = record { clears = λ n. tt; given = tt }
 
-leads : (at38h : Bool) (t : Turn) → has (host ∷ []) (kind t) ≡ false → Clears at38h (Next t)
+leads : (held : Bool) (t : Turn) → has (host ∷ []) (kind t) ≡ false → WriteLeads held (Next t)
 unfolding hostSound
-leads at38h t h =
+leads held t h =
     let other = among-has (kind t) (host ∷ []) ∙ h in
     record { clears = λ n. other; given = if-false _ _ _ other }
 
 -- at 38h itself
-stays : (status : ℕ) (edge : Edge) → among status (0x38 ∷ []) ≡ true → Clears (eqb status 0x38) (Next (turn.Host 0x38 edge))
+stays : (status : ℕ) (edge : Edge) → among status (0x38 ∷ []) ≡ true → WriteLeads (eqb status 0x38) (Next (turn.Host 0x38 edge))
 stays status edge e = record {
-  clears = λ n. absurd (true≢false (sym e ∙ among-has status (0x38 ∷ []) ∙ ap (λ (b : Bool). elim b [ true ↦ true | false ↦ false ]) n));
+  clears = λ n. absurd (true≢false (sym e ∙ none-of (0x38 ∷ []) status (eqb-false status 0x38 n)));
   given = given-sound 0x38 edge tt;
 }
 
-ends-clears : (at38h : Bool) (k : Control) (r : Response) → Clears at38h r → Clears at38h (endOr k r)
+ends-clears : (held : Bool) (k : Control) (r : Response) → WriteLeads held r → WriteLeads held (endOr k r)
 unfolding endOr kind
-ends-clears at38h k r h = search (choose, leads)
+ends-clears held k r h = search (choose, leads)
 
-edge-clears : (at38h : Bool) (e : Edge) → Clears at38h (Next (afterEdge e))
+edge-clears : (held : Bool) (e : Edge) → WriteLeads held (Next (afterEdge e))
 unfolding afterEdge kind
-edge-clears at38h Stop = search leads
-edge-clears at38h Start = search leads
+edge-clears held Stop = search leads
+edge-clears held Start = search leads
 
-status-clears : (status : ℕ) (edge : Edge) (k : Control) → Clears (eqb status 0x38) (respondsAt status edge k)
+status-clears : (status : ℕ) (edge : Edge) (k : Control) → WriteLeads (eqb status 0x38) (respondsAt status edge k)
 unfolding respondsAt kind
 status-clears status edge k = search (choose, unlisted, leads, stays, ends-clears, edge-clears) depth 30
 
-pub response-clears : (t : Turn) (k : Control) → Clears (lost t) (response t k)
+pub response-clears : (t : Turn) (k : Control) → WriteLeads (at38h t) (response t k)
 unfolding response kind
 response-clears t k =
     choose _ (among (kind t) (off ∷ [])) _ _ (λ e. leads _ turn.Free refl)
     (λ e. choose _ (among (kind t) (host ∷ [])) _ _ (λ e. status-clears (statusOf t) (edgeOf t) k)
     (λ e. leads _ t (sym (among-has (kind t) (host ∷ [])) ∙ e)))
 
-enabling : (c : Controller) (k : Control) (at38h : Bool) (r : Response) → sound c ≡ true → Clears at38h r → Kept (enabled c k r)
+enabling : (c : Controller) (k : Control) (held : Bool) (r : Response) → sound c ≡ true → WriteLeads held r → Kept (enabled c k r)
 unfolding enabled
-enabling c k at38h Unlisted s h = refused c 5 s
-enabling c k at38h (Next t) s h = split Kept (badCount c k t) _ _ (λ e. refused c 6 s) (λ e. control-written c k t s (h .given) e)
+enabling c k held Unlisted s h = refused c 5 s
+enabling c k held (Next t) s h = split Kept (badCount c k t) _ _ (λ e. refused c 6 s) (λ e. control-written c k t s (h .given) e)
 
 write-flags : (c : Controller) (k : Control) → sound c ≡ true → Kept (writeFlags c k)
 unfolding writeFlags badCount hostSound

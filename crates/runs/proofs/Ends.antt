@@ -18,7 +18,7 @@ use Rattle.notation.proofs.Cases.{and-left, split}
 use Rattle.notation.specs.Choice.{if_then_else_}
 use Rattle.runs.proofs.Invariant.{In, Good, Stepped, ended}
 use Rattle.runs.proofs.Lines.{Line, lostWork, faultWork}
-use Rattle.runs.proofs.Step.{KeepsOrEnds, refusing, hosting, broken, not-lost, no-match}
+use Rattle.runs.proofs.Step.{KeepsOrEnds, refusing, hosting, broken, not-38h, no-match}
 use Rattle.service.specs.Act.{doesAll, follows, performs}
 use Rattle.service.specs.Serve.{Table, serve}
 use Rattle.service.specs.declared.job.Job.{Job}
@@ -84,7 +84,7 @@ module _ (table : Table) {job : Job} {payload carried : List ℕ} {sent : ℕ} {
   pub clock-held : Line table 0x78 faultWork → (argument : ℕ) → S 12 argument (clockHeld (p .controller))
   unfolding clockHeld
   clock-held line argument =
-      split (S 12 argument) _ _ _ (λ l. absurd (not-lost g (and-left _ _ l)))
+      split (S 12 argument) _ _ _ (λ l. absurd (not-38h g (and-left _ _ l)))
       (λ l. split (S 12 argument) _ _ _ (λ t. refusing table g 12 argument 7)
       (λ t. split (S 12 argument) _ _ _ (λ u. hosting table g 12 argument _ 0x78 0 line refl refl refl (λ s. at-fault g 12 argument refl _))
       (λ u. refusing table g 12 argument 7)))

@@ -14,3 +14,4 @@ pub mod Facts
 pub mod Fits
 pub mod HandsUpSoMany
 pub mod OneByteEach
+pub mod LostJobs

@@ -9,8 +9,8 @@ use Rattle.address.specs.Matching.{matchOf}
 use Rattle.address.specs.declared.matching.Match.the-variants.{Nothing}
 use Rattle.answer.specs.Ending.{numberOf}
 use Rattle.answer.specs.declared.ending.Ending.{Ending}
-use Rattle.control.proofs.Turning.{idle-not-lost}
-use Rattle.control.specs.Turn.{host, statusOf, lost}
+use Rattle.control.proofs.Turning.{idle-not-38h}
+use Rattle.control.specs.Turn.{host, statusOf, at38h}
 use Rattle.control.specs.declared.turn.Edge.the-variants.{Stop}
 use Rattle.control.specs.declared.turn.Turn.the-variants as turn
 use Rattle.controller.specs.Condition.{matches}
@@ -89,8 +89,8 @@ module _ {job : Job} {payload carried : List ℕ} {sent : ℕ} {p : Progress} (g
   here ls t e = clash _ jobTurns ls t (g .turn) e
 
   -- so it is not Host, at 38h or any other status
-  pub not-lost : lost (p .controller .turn) ≡ true → ⊥
-  not-lost e = absurd (false≢true (sym (idle-not-lost _ (apart _ jobTurns (host ∷ []) tt (g .turn))) ∙ e))
+  pub not-38h : at38h (p .controller .turn) ≡ true → ⊥
+  not-38h e = absurd (false≢true (sym (idle-not-38h _ (apart _ jobTurns (host ∷ []) tt (g .turn))) ∙ e))
 
   -- events but 6 and 7 send and receive nothing
   pub keep : (number argument : ℕ) (q : Progress) → eqb number 7 ≡ false → eqb number 6 ≡ false → Good job payload carried sent q →

@@ -31,7 +31,7 @@ use Rattle.service.proofs.Sound.{put-sound}
 use Rattle.runs.proofs.Ends.{at-fault}
 use Rattle.runs.proofs.Invariant.{In, waitingTurns, earlyTurns, Good, Stepped, going, good-waiting, good-addressing}
 use Rattle.runs.proofs.Lines.{Line, addressWork, faultWork, addresses}
-use Rattle.runs.proofs.Step.{KeepsOrEnds, hosted, refusing, hosting, idling, here, not-lost, keep, early-good, no-match}
+use Rattle.runs.proofs.Step.{KeepsOrEnds, hosted, refusing, hosting, idling, here, not-38h, keep, early-good, no-match}
 use Rattle.service.specs.Act.{put}
 use Rattle.service.specs.Progress.{withRecord}
 use Rattle.service.specs.Serve.{Table}
@@ -103,7 +103,7 @@ module _ (table : Table) {job : Job} {payload carried : List ℕ} {sent : ℕ} {
       split (S 3 argument) _ _ _
       (λ t. waiting 3 argument turn.Free 0 refl refl refl refl (within _ (busy ∷ []) waitingTurns tt t) free-waits)
       (λ t. split (S 3 argument) _ _ _ (λ u. absurd (here g (slaveReceive ∷ []) tt u))
-      (λ u. split (S 3 argument) _ _ _ (λ v. absurd (not-lost g v)) (λ v. refusing table g 3 argument 7)))
+      (λ u. split (S 3 argument) _ _ _ (λ v. absurd (not-38h g v)) (λ v. refusing table g 3 argument 7)))
 
   -- 5: an address byte
   addressed-step : (argument : ℕ) → In p (listen ∷ []) → S 5 argument (addressed (p .controller) (matches (p .controller) argument))

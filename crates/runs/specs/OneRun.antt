@@ -1,15 +1,18 @@
 -- Laws of one run of a job, whatever the job, script and record (its buffer is a list here, so that it has 68 places is said). These are
--- the statements; `always-fits` (proofs/Fits.antt), `one-byte-each` (proofs/OneByteEach.antt) and `hands-up-so-many`
--- (proofs/HandsUpSoMany.antt) say that they hold. `carried` is for demand 3.
+-- the statements; `always-fits` (proofs/Fits.antt), `one-byte-each` (proofs/OneByteEach.antt), `hands-up-so-many`
+-- (proofs/HandsUpSoMany.antt), `lost-left` and `none-begins` (proofs/LostJobs.antt) say that they hold. `carried` is for demand 3.
+use mathlib.Core.Bool.{true, false}
 use mathlib.Core.List.{List, [], _∷_}
 use mathlib.Core.Path.{_≡_}
 use Prim.Native.Nat.{ℕ, zero, suc, _+_, _≤_}
 use lib.Dec.{eqb}
 use lib.ListN.{length}
 use Rattle.address.specs.Number.{bitOf}
+use Rattle.control.specs.Turn.{at38h}
 use Rattle.controller.specs.declared.record.Controller.{Controller}
-use Rattle.driver.specs.Run.{Report, jobOf}
+use Rattle.driver.specs.Run.{Report, declines, jobOf}
 use Rattle.notation.specs.Choice.{if_then_else_, _and_}
+use Rattle.service.specs.Request.{malformed}
 use Rattle.service.specs.declared.job.Job.{Job}
 
 -- what a job sends and hands up fits into what was lent, and a byte holds how many it sent: "The out record begins with those and its
@@ -43,6 +46,25 @@ abbrev pub HandsUpSoMany : Type 0
 HandsUpSoMany = (job : Job) (payload : List ℕ) (destinationLength outLength : ℕ) (script : List ℕ) (c : Controller) →
     length (c .buffer) ≡ 68 →
     let r = jobOf job payload destinationLength outLength script c in length (r .handed) ≡ handedCount job (r .result .answer)
+
+-- "For job answer 25 the driver still writes 40h, and the record stays at 38h" (document 02, request 2): status 38h, and the flags of 40h
+pub record LeftAt38h (c : Controller) : Type 0 where
+  pub status : at38h (c .turn) ≡ true
+  pub aa : c .control .aa ≡ false
+  pub ensio : c .control .ensio ≡ true
+  pub sta : c .control .sta ≡ false
+  pub mode : c .control .mode ≡ false
+
+abbrev pub LostLeft : Type 0
+LostLeft = (job : Job) (payload : List ℕ) (destinationLength outLength : ℕ) (script : List ℕ) (c : Controller) →
+    let r = jobOf job payload destinationLength outLength script c in r .result .answer ≡ 25 → LeftAt38h (r .result .next)
+
+-- No job begins at 38h: "turn not Free" is 22, and 21 comes before it; "both leave everything as it was".
+abbrev pub NoneBegins : Type 0
+NoneBegins = (job : Job) (payload : List ℕ) (destinationLength outLength : ℕ) (script : List ℕ) (c : Controller) →
+    at38h (c .turn) ≡ true →
+    jobOf job payload destinationLength outLength script c ≡
+    (if malformed job (length payload) destinationLength outLength (length script) then declines c 21 else declines c 22)
 
 -- "What the bus carried in it are the arguments of the event 7 pairs before its script's first event 4, .. in script order."
 unfoldable pub carried : List ℕ → List ℕ

@@ -34,24 +34,34 @@ use Rattle.service.specs.Act.{
 use Rattle.service.specs.Serve.{Table, serve}
 use Rattle.service.specs.declared.progress.Progress.{Progress}
 
--- no act takes a pair: the number of them stays
-fetch-events : (more i : ℕ) (p : Progress) → (fetch more i p) .events ≡ p .events
+-- no act takes a pair or gives an answer: the number of pairs and the answer noted stay
+pub record NotesKept (p q : Progress) : Type 0 where
+  pub events : q .events ≡ p .events
+  pub ending : q .ending ≡ p .ending
+
+same : {p q : Progress} → q .events ≡ p .events → q .ending ≡ p .ending → NotesKept p q
+same e f = record { events = e; ending = f }
+
+in-turn : {p q r : Progress} → NotesKept p q → NotesKept q r → NotesKept p r
+in-turn f g = record { events = g .events ∙ f .events; ending = g .ending ∙ f .ending }
+
+fetch-leaves : (more i : ℕ) (p : Progress) → NotesKept p (fetch more i p)
 unfolding fetch fetchOne
-fetch-events zero i p = refl
-fetch-events (suc more) i p = fetch-events more (i + 1) (fetchOne i p)
+fetch-leaves zero i p = same refl refl
+fetch-leaves (suc more) i p = in-turn (same refl refl) (fetch-leaves more (i + 1) (fetchOne i p))
 
-does-events : (x : Act) (p : Progress) → (does x p) .events ≡ p .events
+does-leaves : (x : Act) (p : Progress) → NotesKept p (does x p)
 unfolding does fetchOne
-does-events (writes register value) p = refl
-does-events (readsData at) p = refl
-does-events readsAll p = fetch-events (readTimes (p .count)) 0 p
-does-events readsCount p = refl
-does-events (counts count) p = refl
+does-leaves (writes register value) p = same refl refl
+does-leaves (readsData at) p = same refl refl
+does-leaves readsAll p = fetch-leaves (readTimes (p .count)) 0 p
+does-leaves readsCount p = same refl refl
+does-leaves (counts count) p = same refl refl
 
-all-events : (xs : List Act) (p : Progress) → (doesAll xs p) .events ≡ p .events
+pub acts-leave : (xs : List Act) (p : Progress) → NotesKept p (doesAll xs p)
 unfolding doesAll
-all-events [] p = refl
-all-events (x ∷ xs) p = all-events xs (does x p) ∙ does-events x p
+acts-leave [] p = same refl refl
+acts-leave (x ∷ xs) p = in-turn (does-leaves x p) (acts-leave xs (does x p))
 
 follows-events : (t : Then) (p : Progress) → (follows t p) .events ≡ p .events
 unfolding follows
@@ -69,7 +79,7 @@ pub serve-events : (table : Table) (event : ℕ) (p : Progress) → (serve table
 unfolding serve follows performs
 serve-events table event p =
     let w = table (reads (p .controller) 0) (p .count) in
-    either _ _ _ _ refl (either _ _ _ _ refl (either _ _ _ _ refl (follows-events (w .after) _ ∙ all-events (w .acts) p)))
+    either _ _ _ _ refl (either _ _ _ _ refl (either _ _ _ _ refl (follows-events (w .after) _ ∙ acts-leave (w .acts) p .events)))
 
 -- Of a sound record: event 14 and own STOP end the job, at F8h the driver waits, and at any other status it goes by the table.
 module _ (table : Table) (event : ℕ) (p : Progress) where

@@ -15,7 +15,7 @@ const NO_STATUS: u8 = 0xF8;
 const FAULTS: [u8; 3] = [0x00, 0x70, 0x78];
 /// The statuses at which the address byte is to be sent.
 const STARTED: [u8; 2] = [0x08, 0x10];
-/// The status of lost arbitration, which no write with ENSIO 1 ends.
+/// Arbitration lost: no write with ENSIO 1 ends it.
 pub const LOST: u8 = 0x38;
 
 /// Chooses the groups of one trace.

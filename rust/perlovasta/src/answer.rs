@@ -16,7 +16,9 @@ pub enum Answer {
     AddressNacked,
     /// A data byte was not acknowledged; after own STOP.
     DataNacked,
-    /// Arbitration was lost.
+    /// Arbitration was lost. A chip then stays at status 38h until another's
+    /// STOP, a time-out, a reset or ENSIO 0; nothing here remembers that, as
+    /// every job begins on a fresh controller.
     Lost,
     /// A bus fault: status 00h, 70h or 78h.
     Fault,

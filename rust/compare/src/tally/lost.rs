@@ -34,7 +34,10 @@ impl Tally {
                 self.lost_kept += 1;
                 return;
             }
-            _ => return,
+            _ => {
+                assert!(!left, "38h left by {kind} {place} {value}");
+                return;
+            }
         };
         self.lost_left[end as usize] += 1;
     }

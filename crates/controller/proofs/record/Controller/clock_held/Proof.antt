@@ -3,7 +3,7 @@ use mathlib.Core.Bool.{Bool, false}
 use mathlib.Core.List.{[], _∷_}
 use mathlib.Core.Path.{_≡_, sym, ap, _∙_}
 use borrow.Author.Needs.{needs}
-use Rattle.control.proofs.Turning.{at-turns, except, idle-not-lost}
+use Rattle.control.proofs.Turning.{at-turns, except, idle-not-38h}
 use Rattle.control.specs.Turn.{off, host}
 use Rattle.controller.specs.Condition.{clockHeld}
 use Rattle.controller.specs.Effect.{afterEvent}
@@ -13,19 +13,19 @@ use Rattle.controller.proofs.record.Controller.clock_held.Statement.{st
 use Rattle.controller.proofs.record.Controller.clock_held.Tie as tie
 
 -- what the test for 38h with TE 1 came to, of what the call answered
-both : (te : Bool) {asked lost v : Bool} → asked ≡ lost → (asked and te) ≡ v → (lost and te) ≡ v
-both te e h = ap (λ (b : Bool). b and te) (sym e) ∙ h
+both-asked : (te : Bool) {asked there v : Bool} → asked ≡ there → (asked and te) ≡ v → (there and te) ≡ v
+both-asked te e h = ap (λ (b : Bool). b and te) (sym e) ∙ h
 
 returns : tie.Need-returns
 unfolding clockHeld afterEvent _and_
-returns c = search (both _ (c .before .is-lost .ensures) (c .if1 .taken), cases)
+returns c = search (both-asked _ (c .before .is-at-38h .ensures) (c .if1 .taken), cases)
 
 returns-2 : tie.Need-returns-2
 unfolding clockHeld _and_
 returns-2 c =
     let test = c .before in
     let there = at-turns (off ∷ host ∷ []) (test .before .before .before .before .args .self .turn) (test .before .before .match .keys1) in
-    search (both _ (test .before .is-lost .ensures) (test .if1 .left), there, cases)
+    search (both-asked _ (test .before .is-at-38h .ensures) (test .if1 .left), there, cases)
 
 returns-3 : tie.Need-returns-3
 unfolding clockHeld
@@ -33,7 +33,7 @@ returns-3 c =
     let arm = c .before .before in
     let turn = arm .before .before .args .self .turn in
     let elsewhere = at-turns (except (off ∷ host ∷ [])) turn (arm .match .keys2) in
-    search (idle-not-lost turn (elsewhere false (host ∷ []) tt), elsewhere, cases)
+    search (idle-not-38h turn (elsewhere false (host ∷ []) tt), elsewhere, cases)
 
 returns-4 : tie.Need-returns-4
 unfolding clockHeld
@@ -41,7 +41,7 @@ returns-4 c =
     let arm = c .before .before in
     let turn = arm .before .before .args .self .turn in
     let elsewhere = at-turns (except (off ∷ host ∷ [])) turn (arm .match .keys2) in
-    search (idle-not-lost turn (elsewhere false (host ∷ []) tt), elsewhere, cases)
+    search (idle-not-38h turn (elsewhere false (host ∷ []) tt), elsewhere, cases)
 
 pub clock-held-spec : {M : Type 1} → statement M
 clock-held-spec =

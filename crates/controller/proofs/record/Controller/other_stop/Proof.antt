@@ -24,7 +24,7 @@ unfolding otherStop afterEvent
 returns-3 c =
     let arm = c .before .before in
     let elsewhere = at-turns (except (busy ∷ slaveReceive ∷ [])) (arm .before .args .self .turn) (arm .match .keys3) in
-    search (elsewhere, sym (c .before .is-lost .ensures) ∙ c .if1 .taken, cases)
+    search (elsewhere, sym (c .before .is-at-38h .ensures) ∙ c .if1 .taken, cases)
 
 returns-4 : tie.Need-returns-4
 unfolding otherStop
@@ -32,7 +32,7 @@ returns-4 c =
     let test = c .before in
     let arm = test .before .before in
     let elsewhere = at-turns (except (busy ∷ slaveReceive ∷ [])) (arm .before .args .self .turn) (arm .match .keys3) in
-    search (elsewhere, sym (test .before .is-lost .ensures) ∙ test .if1 .left, cases)
+    search (elsewhere, sym (test .before .is-at-38h .ensures) ∙ test .if1 .left, cases)
 
 pub other-stop-spec : {M : Type 1} → statement M
 other-stop-spec =
