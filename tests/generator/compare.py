@@ -155,7 +155,9 @@ def at_38h(raw, text):
         for _ in range(bench.LINES[part[0]]):
             line = next(lines)
         was, at_38 = at_38, "status 38" in line
-        if was and part[0] != bench.JOB:
+        if was and part[0] == bench.JOB:
+            assert at_38, "no job leaves 38h"
+        elif was:
             refused = not line.startswith("refused 0")
             found[lost_ways.way(part, refused, at_38)] += 1
     del found[None]

@@ -1,5 +1,5 @@
--- Each starred case shows what document 01 says: one equation over the list of them, by computing both sides. So does the list of jobs after a
--- lost one. Assumes nothing.
+-- Each starred case shows what document 01 says: one equation over the list of them, by computing both sides. In the same way the list of jobs
+-- after a lost one shows what request 2 says. Assumes nothing.
 use mathlib.Core.Path.{refl}
 use Rattle.address.specs.Matching.{callsAll, callsOwn, callOf, matchOf}
 use Rattle.address.specs.Number.{bitOf, byteOf, addressOf, directionOf}

@@ -21,8 +21,8 @@ reading = job Read 0x50 1 [] (0x01 ∷ 0x00 ∷ 0x06 ∷ 0x00 ∷ 0x07 ∷ 0x5C 
 
 abbrev pub lostAndAfter : List Action
 lostAndAfter =
-    -- a fresh controller, enabled; a write of 1 to 50h, lost to the smaller address byte 40h
-    write 3 0x40 ∷ job Write 0x50 1 (0x11 ∷ []) (0x01 ∷ 0x00 ∷ 0x08 ∷ 0x40 ∷ []) ∷
+    -- a fresh controller, enabled; a write of 1 to 50h, the address acknowledged and the data byte lost
+    write 3 0x40 ∷ job Write 0x50 1 (0x11 ∷ []) (0x01 ∷ 0x00 ∷ 0x06 ∷ 0x00 ∷ 0x09 ∷ 0x00 ∷ []) ∷
     -- another's START, and another job
     event 2 0 ∷ reading ∷
     -- 50h, with STO set, and another job
@@ -33,7 +33,7 @@ lostAndAfter =
 -- 25; 22 until another's STOP came; done
 abbrev pub lostAndAfterShows : List Shown
 lostAndAfterShows =
-    accessed 0 Free ∷ ran 25 0 2 [] [] false ∷
+    accessed 0 Free ∷ ran 25 0 3 (0xA0 ∷ []) [] false ∷
     accessed 8 (Host 0x38 Stop) ∷ ran 22 0 0 [] [] false ∷
     accessed 0 (Host 0x38 Stop) ∷ ran 22 0 0 [] [] false ∷
     accessed 0 Free ∷ ran 0 1 4 (0xA1 ∷ []) (0x5C ∷ []) false ∷ []

@@ -47,7 +47,8 @@ pub record Stays38h (c : Controller) : Type 0 where
   pub read : (register : ℕ) → readOf c register .next .turn ≡ c .turn
   pub write : (register value : ℕ) → writeOf c register value .next .turn ≡ turnAfterWriteAt38h c register value
   pub event : (number argument : ℕ) → eventOf c number argument ≡ eventAt38h c number argument
-  -- Every byte with ENSIO 1 is accepted, whatever BC is: it stores the flags and puts hand place and moved count back at 0. "SI stays 1 and status 38h"
+  -- Every byte with ENSIO 1 is accepted, whatever BC is: it stores the flags, puts hand place and moved count back at 0, and disarms the software reset
+  -- (`wrote`), as every accepted I2CCON write does. "SI stays 1 and status 38h"
   pub enabling : (value : ℕ) → flagsOf value .ensio ≡ true →
       writeOf c 3 value ≡ wrote (withControl (withMoved (withHand c 0) 0) (storedAt38h (c .control) (flagsOf value)))
 

@@ -15,3 +15,4 @@ pub mod Fits
 pub mod HandsUpSoMany
 pub mod OneByteEach
 pub mod LostJobs
+pub mod NoneBegins

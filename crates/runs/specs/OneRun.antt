@@ -1,6 +1,6 @@
 -- Laws of one run of a job, whatever the job, script and record (its buffer is a list here, so that it has 68 places is said). These are
 -- the statements; `always-fits` (proofs/Fits.antt), `one-byte-each` (proofs/OneByteEach.antt), `hands-up-so-many`
--- (proofs/HandsUpSoMany.antt), `lost-left` and `none-begins` (proofs/LostJobs.antt) say that they hold. `carried` is for demand 3.
+-- (proofs/HandsUpSoMany.antt), `lost-held` (proofs/LostJobs.antt) and `none-begins` (proofs/NoneBegins.antt) say that they hold. `carried` is for demand 3.
 use mathlib.Core.Bool.{true, false}
 use mathlib.Core.List.{List, [], _∷_}
 use mathlib.Core.Path.{_≡_}
@@ -47,17 +47,21 @@ HandsUpSoMany = (job : Job) (payload : List ℕ) (destinationLength outLength : 
     length (c .buffer) ≡ 68 →
     let r = jobOf job payload destinationLength outLength script c in length (r .handed) ≡ handedCount job (r .result .answer)
 
--- "For job answer 25 the driver still writes 40h, and the record stays at 38h" (document 02, request 2): status 38h, and the flags of 40h
-pub record LeftAt38h (c : Controller) : Type 0 where
+-- "For job answer 25 the driver still writes 40h, and the record stays at 38h" (document 02, request 2): status 38h; AA, ENSIO, STA
+-- and MODE as 40h stores them; hand place and moved count at 0, as after every accepted I2CCON write
+pub record HeldAt38h (c : Controller) : Type 0 where
   pub status : at38h (c .turn) ≡ true
   pub aa : c .control .aa ≡ false
   pub ensio : c .control .ensio ≡ true
   pub sta : c .control .sta ≡ false
   pub mode : c .control .mode ≡ false
+  pub hand : c .hand ≡ 0
+  pub moved : c .moved ≡ 0
 
-abbrev pub LostLeft : Type 0
-LostLeft = (job : Job) (payload : List ℕ) (destinationLength outLength : ℕ) (script : List ℕ) (c : Controller) →
-    let r = jobOf job payload destinationLength outLength script c in r .result .answer ≡ 25 → LeftAt38h (r .result .next)
+-- every job answered 25
+abbrev pub LostHeld : Type 0
+LostHeld = (job : Job) (payload : List ℕ) (destinationLength outLength : ℕ) (script : List ℕ) (c : Controller) →
+    let r = jobOf job payload destinationLength outLength script c in r .result .answer ≡ 25 → HeldAt38h (r .result .next)
 
 -- No job begins at 38h: "turn not Free" is 22, and 21 comes before it; "both leave everything as it was".
 abbrev pub NoneBegins : Type 0

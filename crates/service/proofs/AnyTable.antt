@@ -35,22 +35,22 @@ use Rattle.service.specs.Serve.{Table, serve}
 use Rattle.service.specs.declared.progress.Progress.{Progress}
 
 -- no act takes a pair or gives an answer: the number of pairs and the answer noted stay
-pub record NotesKept (p q : Progress) : Type 0 where
+pub record PairsAndAnswerKept (p q : Progress) : Type 0 where
   pub events : q .events ≡ p .events
   pub ending : q .ending ≡ p .ending
 
-same : {p q : Progress} → q .events ≡ p .events → q .ending ≡ p .ending → NotesKept p q
+same : {p q : Progress} → q .events ≡ p .events → q .ending ≡ p .ending → PairsAndAnswerKept p q
 same e f = record { events = e; ending = f }
 
-in-turn : {p q r : Progress} → NotesKept p q → NotesKept q r → NotesKept p r
+in-turn : {p q r : Progress} → PairsAndAnswerKept p q → PairsAndAnswerKept q r → PairsAndAnswerKept p r
 in-turn f g = record { events = g .events ∙ f .events; ending = g .ending ∙ f .ending }
 
-fetch-leaves : (more i : ℕ) (p : Progress) → NotesKept p (fetch more i p)
+fetch-leaves : (more i : ℕ) (p : Progress) → PairsAndAnswerKept p (fetch more i p)
 unfolding fetch fetchOne
 fetch-leaves zero i p = same refl refl
 fetch-leaves (suc more) i p = in-turn (same refl refl) (fetch-leaves more (i + 1) (fetchOne i p))
 
-does-leaves : (x : Act) (p : Progress) → NotesKept p (does x p)
+does-leaves : (x : Act) (p : Progress) → PairsAndAnswerKept p (does x p)
 unfolding does fetchOne
 does-leaves (writes register value) p = same refl refl
 does-leaves (readsData at) p = same refl refl
@@ -58,7 +58,7 @@ does-leaves readsAll p = fetch-leaves (readTimes (p .count)) 0 p
 does-leaves readsCount p = same refl refl
 does-leaves (counts count) p = same refl refl
 
-pub acts-leave : (xs : List Act) (p : Progress) → NotesKept p (doesAll xs p)
+pub acts-leave : (xs : List Act) (p : Progress) → PairsAndAnswerKept p (doesAll xs p)
 unfolding doesAll
 acts-leave [] p = same refl refl
 acts-leave (x ∷ xs) p = in-turn (does-leaves x p) (acts-leave xs (does x p))

@@ -28,7 +28,7 @@ impl Tally {
             (true, EVENT, OTHER_STOP) => LostEnd::OtherStop,
             (true, EVENT, SCL_LOW) => LostEnd::TimeOut,
             (true, EVENT, RESET) => LostEnd::ResetPin,
-            (true, WRITE, INDIRECT) => LostEnd::SoftwareReset,
+            (true, WRITE, INDIRECT) if value == 0x5A => LostEnd::SoftwareReset,
             (true, WRITE, CONTROL) if !enabling => LostEnd::Disabled,
             (false, WRITE, CONTROL) if enabling => {
                 self.lost_kept += 1;

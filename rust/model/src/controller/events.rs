@@ -228,7 +228,8 @@ impl Controller {
         Ok(0)
     }
 
-    /// Event 12. "Expected at 38h with SI 1" too (document 02, Ask 2).
+    /// Event 12. "Both are expected at 38h with SI 1" (document 02, Ask 2): so
+    /// is this one.
     fn scl_low(&mut self) -> Result<u8, Refusal> {
         match self.turn {
             Turn::Off => return Err(Refusal::NotExpected),
