@@ -38,14 +38,16 @@ but ks [] = []
 but ks (t ∷ ts) = elim (has ks t) [ true ↦ but ks ts | false ↦ t ∷ but ks ts ]
 
 abbrev pub except : List ℕ → List ℕ
-except ks = but ks (off ∷ host ∷ free ∷ busy ∷ listen ∷ address ∷ send ∷ receive ∷ slaveReceive ∷ slaveSend ∷ stopping ∷ restarting ∷ [])
+except ks =
+    but ks (off ∷ host ∷ free ∷ busy ∷ listen ∷ address ∷ send ∷ receive ∷ slaveReceive ∷ slaveSend ∷ stopping ∷ restarting ∷ [])
 
 -- the arm of one turn, whose number is k
 pub at-turn : (k : ℕ) (t : Turn) → tagOf the-type t ≡ k → (v : Bool) (ls : List ℕ) → has ls k ≡ v → among (kind t) ls ≡ v
 at-turn k t e v ls h = among-has (kind t) ls ∙ ap (has ls) (sym (tag-kind t) ∙ e) ∙ h
 
 -- the arm of several turns, and the default
-pub at-turns : (ks : List ℕ) (t : Turn) → OneOf ks (tagOf the-type t) → (v : Bool) (ls : List ℕ) → T (every (λ k. same (has ls k) v) ks) → among (kind t) ls ≡ v
+pub at-turns : (ks : List ℕ) (t : Turn) → OneOf ks (tagOf the-type t) → (v : Bool) (ls : List ℕ) → T (every (λ k. same (has ls k) v) ks) →
+    among (kind t) ls ≡ v
 at-turns ks t h v ls p = ap (λ (k : ℕ). among k ls) (sym (tag-kind t)) ∙ keys-in ks (tagOf the-type t) h v ls p
 
 -- "Status is F8h exactly when SI is 0": out of Host it is F8h

@@ -6,7 +6,8 @@ use Rattle.control.specs.declared.flags.Control.{Control}
 use Rattle.control.specs.declared.turn.Called.the-variants.{Own, General}
 use Rattle.control.specs.declared.turn.Edge.the-variants.{Stop, Start}
 use Rattle.control.specs.declared.turn.Edge.{Edge}
-use Rattle.control.specs.declared.turn.Turn.the-variants.{Host, Free, Busy, Listen, Address, Send, Receive, SlaveReceive, SlaveSend, Stopping, Restarting}
+use Rattle.control.specs.declared.turn.Turn.the-variants.{Host, Free, Busy, Listen}
+use Rattle.control.specs.declared.turn.Turn.the-variants.{Address, Send, Receive, SlaveReceive, SlaveSend, Stopping, Restarting}
 use Rattle.control.specs.declared.turn.Turn.{Turn}
 use Rattle.control.specs.declared.writing.Response.the-variants.{Next, Unlisted}
 use Rattle.control.specs.declared.writing.Response.{Response}

@@ -55,7 +55,8 @@ unfolding hostSound kind statusOf
 given-sound status edge g =
     if-true (among host (host ∷ [])) _ _ (among-has host (host ∷ [])) ∙ among-has status givenStatuses ∙ is-true _ g
 
-pub host-sound : (c : Controller) (status : ℕ) (edge : Edge) → Ranges c → T (has givenStatuses status) → c .turn ≡ turn.Host status edge → sound c ≡ true
+pub host-sound : (c : Controller) (status : ℕ) (edge : Edge) → Ranges c → T (has givenStatuses status) →
+    c .turn ≡ turn.Host status edge → sound c ≡ true
 unfolding moveSound kind
 host-sound c status edge r g e =
     whole c (record {

@@ -142,7 +142,8 @@ pub record WriteLeads (held : Bool) (r : Response) : Type 0 where
   pub clears : held ≡ false → NotHost r
   pub given : Given r
 
-choose : (held b : Bool) (x y : Response) → (b ≡ true → WriteLeads held x) → (b ≡ false → WriteLeads held y) → WriteLeads held (if b then x else y)
+choose : (held b : Bool) (x y : Response) → (b ≡ true → WriteLeads held x) → (b ≡ false → WriteLeads held y) →
+    WriteLeads held (if b then x else y)
 choose held b x y p q = split (WriteLeads held) b x y p q
 
 unlisted : (held : Bool) → WriteLeads held Unlisted

@@ -160,7 +160,8 @@ module _ (c : Controller) (edge : Edge) (s : sound (withTurn c (Host 0x38 edge))
       let not-12 : eqb number 12 ≡ true → clockHeld d ≡ refuses d 8 = λ e. no-both e twelve in
       search (gives-8, r .0, r .1, r .2, r .3, r .4, r .5, r .6, r .7, r .8, r .9, idle-8, not-3, not-12) depth 40
     where
-      gives-8 : (b : Bool) (x y : Outcome) → (b ≡ true → x ≡ refuses d 8) → (b ≡ false → y ≡ refuses d 8) → (if b then x else y) ≡ refuses d 8
+      gives-8 : (b : Bool) (x y : Outcome) → (b ≡ true → x ≡ refuses d 8) → (b ≡ false → y ≡ refuses d 8) →
+          (if b then x else y) ≡ refuses d 8
       gives-8 b x y p q = split (λ o. o ≡ refuses d 8) b x y p q
 
   -- an event with a number of 1 to 14 and an argument that it takes
@@ -179,7 +180,8 @@ module _ (c : Controller) (edge : Edge) (s : sound (withTurn c (Host 0x38 edge))
       at : (k : ℕ) → eqb number k ≡ true → Agrees k argument → Agrees number argument
       at k e f = subst (λ n. Agrees n argument) (sym (eqb-true number k e)) f
 
-      by-number : (three twelve fourteen : Bool) → eqb number 3 ≡ three → eqb number 12 ≡ twelve → eqb number 14 ≡ fourteen → Agrees number argument
+      by-number : (three twelve fourteen : Bool) → eqb number 3 ≡ three → eqb number 12 ≡ twelve → eqb number 14 ≡ fourteen →
+          Agrees number argument
       by-number true twelve fourteen e f g = at 3 e (rw s (stops argument))
       by-number false true fourteen e f g = at 12 f (rw s (times-out argument))
       by-number false false true e f g = at 14 g refl

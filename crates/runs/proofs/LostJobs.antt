@@ -97,7 +97,7 @@ module _ (job : Job) (payload : List ℕ) (p : Progress) (n : Not25 p) (s : Keep
 abbrev Held : Result → Type 0
 Held r = r .answer ≡ 25 → HeldAt38h (r .next)
 
-lost-run : (job : Job) (payload : List ℕ) (script : List ℕ) (p : Progress) → Not25 p → KeepsSound p → Held (run (jobTable job payload) p script .result)
+lost-run : (job : Job) (payload script : List ℕ) (p : Progress) → Not25 p → KeepsSound p → Held (run (jobTable job payload) p script .result)
 unfolding run breaks sending closes taking
 lost-run job payload [] p n s = never 27 refl
 lost-run job payload (event ∷ []) p n s = never 27 refl

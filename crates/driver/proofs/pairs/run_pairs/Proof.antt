@@ -171,7 +171,8 @@ over-with r q run-ends is leads =
     )
 
 -- what the driver did at the status is what the table says, by the definitions
-works : (c : Met) {q r : Progress} {status : ℕ} → q ≡ performs (table c status (r .count)) r → r ≡ after c → status ≡ statusOf (c .match .c .turn) →
+works : (c : Met) {q r : Progress} {status : ℕ} → q ≡ performs (table c status (r .count)) r → r ≡ after c →
+    status ≡ statusOf (c .match .c .turn) →
     q ≡ performs (table c (statusOf (outcome c .next .turn)) (given c .count)) (given c)
 works c {status = status} work reach is =
     work ∙ ap (λ (t : Progress). performs (table c status (t .count)) t) (reach ∙ same c)

@@ -4,7 +4,7 @@ use mathlib.Core.List.{[], _∷_}
 use mathlib.Core.Path.{_≡_, sym, ap, _∙_}
 use borrow.Author.Needs.{needs}
 use Rattle.control.proofs.Turning.{at-turns, except, idle-not-38h}
-use Rattle.control.specs.Turn.{off, host}
+use Rattle.control.specs.Turn.{off, host, at38h}
 use Rattle.controller.specs.Condition.{clockHeld}
 use Rattle.controller.specs.Effect.{afterEvent}
 use Rattle.notation.proofs.Cases.{cases}
@@ -27,21 +27,21 @@ returns-2 c =
     let there = at-turns (off ∷ host ∷ []) (test .before .before .before .before .args .self .turn) (test .before .before .match .keys1) in
     search (both-asked _ (test .before .is-at-38h .ensures) (test .if1 .left), there, cases)
 
+-- in the other turns, which are not Host
+elsewhere : (arm : tie.At-match-keys2) → at38h (arm .before .before .args .self .turn) ≡ false
+elsewhere arm = idle-not-38h _ (at-turns (except (off ∷ host ∷ [])) _ (arm .match .keys2) false (host ∷ []) tt)
+
 returns-3 : tie.Need-returns-3
 unfolding clockHeld
 returns-3 c =
     let arm = c .before .before in
-    let turn = arm .before .before .args .self .turn in
-    let elsewhere = at-turns (except (off ∷ host ∷ [])) turn (arm .match .keys2) in
-    search (idle-not-38h turn (elsewhere false (host ∷ []) tt), elsewhere, cases)
+    search (elsewhere arm, at-turns (except (off ∷ host ∷ [])) (arm .before .before .args .self .turn) (arm .match .keys2), cases)
 
 returns-4 : tie.Need-returns-4
 unfolding clockHeld
 returns-4 c =
     let arm = c .before .before in
-    let turn = arm .before .before .args .self .turn in
-    let elsewhere = at-turns (except (off ∷ host ∷ [])) turn (arm .match .keys2) in
-    search (idle-not-38h turn (elsewhere false (host ∷ []) tt), elsewhere, cases)
+    search (elsewhere arm, at-turns (except (off ∷ host ∷ [])) (arm .before .before .args .self .turn) (arm .match .keys2), cases)
 
 pub clock-held-spec : {M : Type 1} → statement M
 clock-held-spec =
