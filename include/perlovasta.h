@@ -24,6 +24,11 @@
 #define PERLOVASTA_GROUP 3u   /* bytes of a trace for each access or event */
 #define PERLOVASTA_ENTRY 8u   /* bytes of a log for each access or event */
 
+/* Of an entry, the first of its eight bytes: why the last move ended, 0 to 6,
+ * and the pointer. */
+#define PERLOVASTA_REASON(entry) (((entry)[6] >> 4) & 7)
+#define PERLOVASTA_POINTER(entry) ((entry)[6] & 15)
+
 #ifdef __cplusplus
 extern "C" {
 #endif
@@ -74,7 +79,8 @@ bool perlovasta_job(uint8_t kind, uint8_t address, uint8_t n,
                     uint8_t *report, size_t report_len);
 
 /*
- * One trace, on a controller after reset, not enabled.
+ * One trace, on a fresh controller: as after reset, but with no reason yet;
+ * not enabled.
  *
  * trace  groups of three bytes: 00 R x reads register R (x is not looked at),
  *        01 R V writes V to register R, 02 E A gives event E with argument A
@@ -87,11 +93,23 @@ bool perlovasta_job(uint8_t kind, uint8_t address, uint8_t n,
  *          3  register 3 (I2CCON) after it
  *          4  hand place after it
  *          5  moved count after it
- *          6  pointer after it, with bit 7 set if the software reset is armed
+ *          6  bits 0 to 3: pointer after it
+ *             bits 4 to 6: why the last move ended, see below
+ *             bit 7: set if the software reset is armed
  *          7  turn after it: 0 Off, 1 Host, 2 Free, 3 Busy, 4 Listen,
  *             5 Address, 6 Send, 7 Receive, 8 SlaveReceive, 9 SlaveSend,
  *             10 Stopping, 11 Restarting; 17 is Host at A0h after a START,
  *             24 is SlaveReceive by General Call
+ *
+ * Why the last move ended: set by each new status but F8h and by a reset, and
+ * kept by everything else. PERLOVASTA_REASON takes it from an entry.
+ *   0  none yet: fresh, or at 08h, 10h, 60h, A8h or D0h
+ *   1  count reached: 18h, 28h, 40h, 50h, 80h, B8h, C8h, E0h
+ *   2  NACK, also on the last byte: 20h, 30h, 48h, 58h, 88h, C0h, E8h
+ *   3  another's START or STOP: A0h
+ *   4  arbitration lost: 38h, 68h, B0h, D8h
+ *   5  fault: 00h, 70h, 78h
+ *   6  reset
  *
  * Returns true if the trace was run. It returns false, and nothing is
  * written, if the trace is not whole groups, has a group of another kind, or

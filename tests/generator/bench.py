@@ -19,7 +19,7 @@ def record_text(c):
     turn = c.turn.name + (" " + c.turn.detail if c.turn.detail else "")
     return (f"status {c.status():02X} control {c.control():02X} "
             f"pointer {c.pointer} hand {c.hand} moved {c.moved} "
-            f"armed {c.armed} turn {turn}")
+            f"armed {c.armed} turn {turn} reason {c.reason}")
 
 
 def called_text(found):

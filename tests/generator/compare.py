@@ -6,6 +6,7 @@ python3 compare.py BENCH JOB [TRACES]
 """
 
 import random
+import re
 import subprocess
 import sys
 from collections import Counter
@@ -13,6 +14,7 @@ from collections import Counter
 import bench
 import driver
 import lost_ways
+from model import REASONS
 from random_jobs import job_group, job_input
 
 GROUPS = 5000
@@ -29,6 +31,8 @@ ANSWERS = {0} | set(range(21, 30))       # Jobs: every answer
 # Ask 5: whom events 5 and 8 call, each with the status it gives
 WANTED_CALLS = {"60 own write", "A8 own read", "D0 general", "F8 none",
                 "68 own write", "B0 own read", "D8 general", "38 none"}
+# Ask 8: the reasons at F8h, for a fault is left by a reset alone
+IDLE_REASONS = set(REASONS) - {"fault"}
 # Ask 2: ways out of 38h
 STOP, TIMEOUT, RESET = (2, 3, 0), (2, 12, 0), (2, 14, 0)
 OUT = (STOP, TIMEOUT, RESET, (1, 0, 5, 1, 2, 0xA5, 1, 2, 0x5A), (1, 3, 0x80))
@@ -147,6 +151,16 @@ def calls(_, text):
                    for words in lines)
 
 
+def reasons(_, text):
+    """Ask 8: how often each reason stands in an output."""
+    return Counter(re.findall(r" reason (\w+)", text))
+
+
+def idle_reasons(_, text):
+    """Ask 8: how often each reason stands beside F8h in an output."""
+    return Counter(re.findall(r"status F8 .* reason (\w+)", text))
+
+
 def at_38h(raw, text):
     """Ask 2: how often a group left 38h, or kept it, in each of the ways."""
     found, at_38, lines = Counter(), False, iter(text.splitlines())
@@ -188,10 +202,13 @@ def same(program, raw, want, name):
 
 
 # What is counted in random traces and in random jobs, and all that must occur;
-# `job` runs on a fresh controller: never 22, and tells of no call
+# `job` runs on a fresh controller: never 22, and tells of no call or reason
 IN_TRACES = (("answers", answers, ANSWERS), ("calls", calls, WANTED_CALLS),
-             ("38h", at_38h, lost_ways.WAYS))
-IN_JOBS = (("answers", answers, ANSWERS - {22}), ("calls", calls, set()))
+             ("38h", at_38h, lost_ways.WAYS),
+             ("reasons", reasons, set(REASONS)),
+             ("reasons at F8h", idle_reasons, IDLE_REASONS))
+IN_JOBS = (("answers", answers, ANSWERS - {22}), ("calls", calls, set()),
+           ("reasons", reasons, set()))
 
 
 def compare(program, inputs, model, name, counts):

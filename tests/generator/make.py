@@ -10,6 +10,7 @@ next K lines stand N times.
 """
 
 import os
+import re
 import sys
 
 import bench
@@ -22,18 +23,20 @@ from driver import job_program
 from events import make_events
 from job_file import JOBS
 from job_limits import make_job_limits
+from job_reasons import make_job_reasons
 from job_traces import make_job_traces
 from jobs import make_jobs
 from lost import make_lost
 from moves import make_moves
+from reasons import make_reasons
 from refusals import make_refusals
 from registers import make_registers
 from software_reset import make_software_reset
 from starts import make_start_ff
 from trace import (
-    HOSTS, SEEN_CALLS, SEEN_CONTROL, SEEN_EVENTS, SEEN_LOST_CONTROL,
-    SEEN_LOST_EVENTS, SEEN_LOST_WAYS, SEEN_OFF, SEEN_REFUSALS, SEEN_STATUSES,
-    TRACES, TURNS, parse)
+    HOSTS, SEEN_CALLS, SEEN_CONTROL, SEEN_EVENTS, SEEN_JOB_REASONS,
+    SEEN_LOST_CONTROL, SEEN_LOST_EVENTS, SEEN_LOST_WAYS, SEEN_OFF,
+    SEEN_REASONS, SEEN_REFUSALS, SEEN_STATUSES, TRACES, TURNS, parse)
 
 # Long outputs, and how many of their lines repeat
 FOLDED = {"bad-65536": 5, "bad-65540": 5, "bad-job-65536": 6,
@@ -50,6 +53,13 @@ CALLS = {"own R 0": ("own write", "own write"),
 # Ask 5: how lines of event-05 and event-08 end
 ENDS = (" called own write 70", " called own read 70", " called general 00",
         " called none 70", " called none 71", " called none 00")
+# Ask 8: the reasons at F8h, for a fault is left by a reset alone; and those
+# that a job ends with: 21 and 22 keep any, 27 and 28 are as reached
+IDLE_REASONS = set(model.REASONS) - {"fault"}
+JOB_REASONS = {0: {"count", "nack"}, 21: set(model.REASONS),
+               22: set(model.REASONS), 23: {"nack"}, 24: {"nack"},
+               25: {"arbitration"}, 26: {"fault"}, 27: IDLE_REASONS,
+               28: IDLE_REASONS, 29: {"reset"}}
 
 
 def check_coverage():
@@ -90,6 +100,21 @@ def check_lost():
     left = sum(1 for way in SEEN_LOST_WAYS if way.startswith("left"))
     return (f"at 38h I2CCON values {len(SEEN_LOST_CONTROL)}, (event, TE, STA) "
             f"{len(wanted)}, ways out {left}")
+
+
+def check_reasons(files):
+    """Ask 8: each status with its reason, each answer with its reasons."""
+    wanted = {(s, model.reason_of(s)) for s in model.STATUSES}
+    wanted |= {(0xF8, reason) for reason in IDLE_REASONS}
+    assert SEEN_REASONS == wanted
+    for status, reason in wanted:
+        line = re.compile(f"status {status:02X} .* reason {reason}\\b")
+        assert any(line.search(text) for name, text in files.items()
+                   if name.startswith("reason-"))
+    after = {(answer, reason) for answer, reasons in JOB_REASONS.items()
+             for reason in reasons}
+    assert SEEN_JOB_REASONS == after
+    return f"(status, reason) {len(wanted)}, (answer, reason) {len(after)}"
 
 
 def folded(text, size):
@@ -151,6 +176,7 @@ def make_traces():
     make_events()
     make_control()
     make_lost()
+    make_reasons()
     make_refusals()
     make_software_reset()
     make_registers()
@@ -159,6 +185,7 @@ def make_traces():
     make_bad()
     make_job_traces()
     make_job_limits()
+    make_job_reasons()
 
 
 def trace_files():
@@ -234,7 +261,8 @@ def main(args):
         return 2
     sets = [trace_files(), job_files()]
     print(f"covered: {check_coverage()}, {check_calls(sets[0])}, "
-          f"{check_lost()}, {check_answers(*sets)}")
+          f"{check_lost()}, {check_reasons(sets[0])}, "
+          f"{check_answers(*sets)}")
     act = check_folder if "--check" in args else write_folder
     wrong = [act(folder, files) for folder, files in zip(folders, sets)]
     return 1 if any(wrong) else 0

@@ -2,7 +2,7 @@
 
 The rules are document 01's; each stands beside a comment that names the
 section. What the match answers is document 02's, Ask 5; what leaves status
-38h is its Ask 2.
+38h is its Ask 2; why a move ended is its Ask 8.
 """
 
 from dataclasses import dataclass, field
@@ -19,6 +19,14 @@ STATUSES = (0x00, 0x08, 0x10, 0x18, 0x20, 0x28, 0x30, 0x38, 0x40, 0x48, 0x50,
             0x58, 0x60, 0x68, 0x70, 0x78, 0x80, 0x88, 0xA0, 0xA8, 0xB0, 0xB8,
             0xC0, 0xC8, 0xD0, 0xD8, 0xE0, 0xE8)
 
+# Ask 8: why a move ended, by the status given
+ENDED = {"count": (0x18, 0x28, 0x40, 0x50, 0x80, 0xB8, 0xC8, 0xE0),
+         "nack": (0x20, 0x30, 0x48, 0x58, 0x88, 0xC0, 0xE8),
+         "outside": (0xA0,),
+         "arbitration": (0x38, 0x68, 0xB0, 0xD8),
+         "fault": (0x00, 0x70, 0x78)}
+REASONS = ("none",) + tuple(ENDED) + ("reset",)
+
 # Registers: address 3, I2CCON = AA 7, ENSIO 6, STA 5, STO 4, SI 3, MODE 0
 AA, ENSIO, STA, STO, SI, MODE = 0x80, 0x40, 0x20, 0x10, 0x08, 0x01
 
@@ -33,7 +41,7 @@ class Turn:
 
 @dataclass
 class Controller:
-    """The controller record, with the values after reset."""
+    """The controller record, fresh: the values after reset but the reason."""
     buffer: list = field(default_factory=lambda: [0] * PLACES)
     turn: Turn = Turn("Off")
     # Registers, "After reset": each of these
@@ -52,6 +60,8 @@ class Controller:
     hand: int = 0
     moved: int = 0
     armed: int = 0
+    # Ask 8: "the program's fresh controller: none yet"
+    reason: str = "none"
 
     def bc(self):
         return self.count & 0x7F     # Registers: I2CCOUNT, BC below bit 7
@@ -94,6 +104,7 @@ def reset(c):
     """Registers, "After reset". The controller record: it keeps the buffer."""
     fresh = Controller(buffer=c.buffer)
     c.__dict__.update(fresh.__dict__)
+    c.reason = "reset"               # Ask 8: set by a reset
 
 
 # ---- Writing I2CCON --------------------------------------------------------
@@ -309,11 +320,20 @@ def expected(c, n, a):
     return c.te() == 1 and c.sta == 1 and t in ("Busy", "Listen")
 
 
+def reason_of(status):
+    """Ask 8: the reason that a new status sets; all others: none yet."""
+    for reason, statuses in ENDED.items():
+        if status in statuses:
+            return reason
+    return "none"
+
+
 def give(c, status, detail=""):
     """The controller record: an event that gives a status leads to Host."""
     if c.turn.name != "Host":        # Ask 2: event 12 at 38h finds SI 1
         c.hand = 0                   # back to 0 whenever SI becomes 1
     c.turn = Turn("Host", status, detail)
+    c.reason = reason_of(status)     # Ask 8: set with each new status but F8h
 
 
 def event(c, n, a):

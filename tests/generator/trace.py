@@ -15,6 +15,8 @@ SEEN_CALLS = set()           # (event, AA, GC, the byte, whom it calls)
 SEEN_LOST_CONTROL = set()    # values at 38h, hand and moved not 0 before
 SEEN_LOST_EVENTS = set()     # (event, TE, STA) at 38h
 SEEN_LOST_WAYS = set()       # how 38h was left, and how it was kept
+SEEN_REASONS = set()         # (status, reason) after a group
+SEEN_JOB_REASONS = set()     # (answer, reason) after a job
 SEEN_REFUSALS = set()
 SEEN_STATUSES = set()
 
@@ -119,6 +121,7 @@ class Trace:
         result = bench.job_group(self.c, whole)
         check_job(self.c, before, result, want)
         check_bytes(result, kind, script)
+        SEEN_JOB_REASONS.add((want, self.c.reason))
         self.printed += 4
         text = pairs.kind_text(kind, address, n)
         self.raw(*part[:4], text=text + (", " + show if show else ""))
@@ -138,6 +141,7 @@ def note_cover(c, was, before, kind, a, b, number):
     turn = "Host" if before["turn"].name == "Host" else was
     if was == "38":
         note_lost(c, before, kind, a, b, number)
+    note_reason(c, before)
     if kind == 2:
         SEEN_EVENTS.add((turn, a))
     if kind == 1 and a == 3:
@@ -150,6 +154,15 @@ def note_cover(c, was, before, kind, a, b, number):
     SEEN_STATUSES.add(c.status())
     if number:
         assert snapshot(c) == before, "a refusal leaves the record"
+
+
+def note_reason(c, before):
+    """Ask 8: set with each new status but F8h, and by a reset, else kept."""
+    if c.turn.name == "Host":
+        assert c.reason == model.reason_of(c.status())
+    else:
+        assert c.reason in (before["reason"], "reset")
+    SEEN_REASONS.add((c.status(), c.reason))
 
 
 def note_lost(c, before, kind, a, b, number):

@@ -1,5 +1,6 @@
 // What is printed of an answer, of the record after it and, for the ward log, of an address byte.
 use crate::print::print;
+use console::reason::put_reason;
 use console::ward_log::put_ward_note;
 use control::turn::Called;
 use control::turn::Edge;
@@ -87,19 +88,21 @@ fn put_numbers(line: &mut [u8], at: usize, c: Controller) -> usize {
     put_field(line, at, b" armed ", armed)
 }
 
-// The record, from `status` to the turn.
+// The record, from `status` to the reason.
 fn put_state(line: &mut [u8], at: usize, c: Controller) -> usize {
     let turn = c.turn;
     let at = put_byte(line, at, b"status ", reading(c, 0));
     let at = put_byte(line, at, b" control ", reading(c, 3));
     let at = put_numbers(line, at, c);
     let at = put_word(line, at, b" turn ");
-    put_turn(line, at, turn)
+    let at = put_turn(line, at, turn);
+    let reason = c.reason;
+    put_reason(line, at, reason)
 }
 
 // The line for one access or event, given to `before`.
 pub(crate) fn print_reply(before: Controller, kind: u8, place: u8, value: u8, reply: Reply) {
-    let mut line = [0u8; 128];
+    let mut line = [0u8; 160];
     let answer = reply.answer;
     let c = reply.controller;
     let refused = answer.refused();
@@ -114,7 +117,7 @@ pub(crate) fn print_reply(before: Controller, kind: u8, place: u8, value: u8, re
 
 // The line for the record after a job.
 pub(crate) fn print_state(c: Controller) {
-    let mut line = [0u8; 128];
+    let mut line = [0u8; 160];
     let at = put_state(&mut line, 0, c);
     let end = put_word(&mut line, at, b"\n");
     print(&line, end);

@@ -13,6 +13,7 @@ use Rattle.controller.specs.Access.{readOf, writeOf, readSound, writeSound, bar
 use Rattle.controller.specs.Record.{place, sound, moveSound}
 use Rattle.controller.specs.Registers.{readData, writeData, wrote}
 use Rattle.controller.specs.Reply.{Outcome, accepts, refuses}
+use Rattle.controller.specs.Setters.{withBuffer, withHand, withArmed}
 use Rattle.controller.specs.declared.record.Controller.{Controller}
 use Rattle.block.specs.Block.{reachOf}
 use Rattle.notation.proofs.Cases.{cases, if-true, if-false}
@@ -48,16 +49,7 @@ reach-whole c e f = if-true (sound c) _ _ e ∙ if-false (waits (c .turn) wireTu
 
 -- the record after an accepted access, whatever became of the buffer and of `armed`
 abbrev pub accessed : Controller → List ℕ → Bool → Controller
-accessed c buffer armed = record {
-  buffer = buffer;
-  hand = c .hand + 1;
-  moved = c .moved;
-  pointer = c .pointer;
-  armed = armed;
-  registers = c .registers;
-  control = c .control;
-  turn = c .turn;
-}
+accessed c buffer armed = withArmed (withHand (withBuffer c buffer) (c .hand + 1)) armed
 
 -- the next access finds the same reach
 pub reach-stays : (c : Controller) (buffer : List ℕ) (armed : Bool) → c .hand < reachOf c → reachOf (accessed c buffer armed) ≡ reachOf c

@@ -1,11 +1,12 @@
 -- What an access or event answers (document 01, The controller record, and Refusals of an access or event).
 use Prim.Native.Nat.{ℕ}
 use Rattle.answer.specs.Refusal.{refusalOf, valueOf}
+use Rattle.control.specs.Reason.{reasonOf}
 use Rattle.control.specs.declared.turn.Edge.the-variants.{Stop}
 use Rattle.control.specs.declared.turn.Edge.{Edge}
 use Rattle.control.specs.declared.turn.Turn.the-variants.{Host}
 use Rattle.control.specs.declared.turn.Turn.{Turn}
-use Rattle.controller.specs.Setters.{withTurn, withHand}
+use Rattle.controller.specs.Setters.{withTurn, withReason, withHand}
 use Rattle.controller.specs.declared.record.Controller.{Controller}
 use Rattle.controller.specs.declared.reply.Reply.{Reply}
 
@@ -30,9 +31,9 @@ accepts c value = record { next = c; refused = 0; value = value }
 unfoldable pub waitsFor : Controller → Turn → ℕ → Outcome
 waitsFor c turn value = accepts (withTurn c turn) value
 
--- "An event that gives a status leads to Host"
+-- "An event that gives a status leads to Host"; the reason "is set with each new status" (document 02, request 8)
 abbrev pub withStatus : Controller → ℕ → Edge → Controller
-withStatus c status edge = withTurn c (Host status edge)
+withStatus c status edge = withReason (withTurn c (Host status edge)) (reasonOf status)
 
 -- the hand place goes "back to 0 .. whenever SI becomes 1"
 unfoldable pub interruptsAt : Controller → ℕ → Edge → ℕ → Outcome

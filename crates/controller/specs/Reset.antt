@@ -4,6 +4,8 @@ use mathlib.Core.List.{List}
 use Prim.Native.Nat.{ℕ}
 use lib.Dec.{eqb}
 use lib.ListN.{replicate}
+use Rattle.control.specs.declared.reason.Reason.the-variants.{NoneYet, Reset}
+use Rattle.control.specs.declared.reason.Reason.{Reason}
 use Rattle.control.specs.declared.turn.Turn.the-variants.{Off}
 use Rattle.controller.specs.Setters.{withArmed}
 use Rattle.controller.specs.Reply.{Outcome, accepts}
@@ -15,9 +17,9 @@ use Rattle.notation.specs.Choice.{if_then_else_, _and_}
 abbrev pub resetRegisters : Registers
 resetRegisters = record { count = 0x01; own = 0xE0; low = 0x9D; high = 0x86; timeout = 0xFF; speed = 0x00 }
 
--- "turn Off, I2CCON 00h, pointer 0, .. hand and moved 0, not armed", over whatever the buffer holds
-unfoldable pub resetWith : List ℕ → Controller
-resetWith buffer = record {
+-- "turn Off, I2CCON 00h, pointer 0, .. hand and moved 0, not armed", over whatever the buffer holds, with this reason
+unfoldable pub resetWith : List ℕ → Reason → Controller
+resetWith buffer reason = record {
   buffer = buffer;
   hand = 0;
   moved = 0;
@@ -26,15 +28,16 @@ resetWith buffer = record {
   registers = resetRegisters;
   control = record { aa = false; ensio = false; sta = false; sto = false; mode = false };
   turn = Off;
+  reason = reason;
 }
 
--- "A reset keeps the buffer"
+-- "A reset keeps the buffer"; the reason is set "by a reset" (document 02, request 8)
 abbrev pub reset : Controller → Controller
-reset c = resetWith (c .buffer)
+reset c = resetWith (c .buffer) Reset
 
--- "The program's fresh controller has all 68 places at zero"
+-- "The program's fresh controller has all 68 places at zero"; its reason is "none yet" (document 02, request 8)
 abbrev pub fresh : Controller
-fresh = resetWith (replicate 68 0)
+fresh = resetWith (replicate 68 0) NoneYet
 
 -- "5Ah to I2CPRESET as the next accepted write resets"
 unfoldable pub completesReset : Controller → ℕ → Bool

@@ -1,6 +1,7 @@
 // The record with what an effect changes. (None touches the buffer: a byte is stored by the loops themselves, or by `with_place`.)
 use crate::effect::Setting;
 use crate::record::Controller;
+use control::reason::Reason;
 use control::turn::Edge;
 use control::turn::Turn;
 ghost use mathlib.Core.Bool.{false};
@@ -11,13 +12,13 @@ ghost use Rattle.control.specs.declared.turn.Turn.the-variants.{Free};
 ghost use Rattle.controller.specs.Effect.{setTo, stoCleared};
 ghost use Rattle.controller.specs.Registers.{stored};
 ghost use Rattle.controller.specs.Reply.{withStatus};
-ghost use Rattle.controller.specs.Setters.{withHand, withPointer, withArmed, withRegisters, withTurn};
+ghost use Rattle.controller.specs.Setters.{withHand, withPointer, withArmed, withRegisters, withTurn, withReason};
 ghost use Rattle.controller.specs.Transfer.{counted};
 
 impl Controller {
-    // The controller waits for something else.
-    pub fn turned(self, turn: Turn) -> Controller
-        ensures { λ r. ⌜ r ≡ withTurn self turn ⌝ }
+    // Another turn and reason.
+    fn with_turn(self, turn: Turn, reason: Reason) -> Controller
+        ensures { λ r. ⌜ r ≡ withReason (withTurn self turn) reason ⌝ }
     {
         let buffer = self.buffer;
         let registers = self.registers;
@@ -31,7 +32,16 @@ impl Controller {
             registers,
             control,
             turn,
+            reason,
         }
+    }
+
+    // The controller waits for something else.
+    pub fn turned(self, turn: Turn) -> Controller
+        ensures { λ r. ⌜ r ≡ withTurn self turn ⌝ }
+    {
+        let reason = self.reason;
+        self.with_turn(turn, reason)
     }
 
     // Own STOP.
@@ -42,11 +52,11 @@ impl Controller {
         self.turned(Turn::Free)
     }
 
-    // A status: Host.
+    // A status: Host, and its reason.
     pub fn with_status(self, status: u8, edge: Edge) -> Controller
         ensures { λ r. ⌜ r ≡ withStatus self status edge ⌝ }
     {
-        self.turned(Turn::Host(status, edge))
+        self.with_turn(Turn::Host(status, edge), Reason::of_status(status))
     }
 
     // A status, and SI becomes 1: the hand place goes back to 0.
@@ -104,6 +114,7 @@ impl Controller {
         let registers = self.registers;
         let control = s.control;
         let turn = s.turn;
+        let reason = self.reason;
         Controller {
             buffer,
             hand: 0,
@@ -113,6 +124,7 @@ impl Controller {
             registers,
             control,
             turn,
+            reason,
         }
     }
 }

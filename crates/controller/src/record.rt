@@ -1,5 +1,6 @@
 // The controller record, by value, and when it is sound.
 use control::flags::Control;
+use control::reason::Reason;
 use control::turn::Turn;
 ghost use mathlib.Core.Path.{_≡_};
 ghost use Rattle.notation.specs.Choice.{among};
@@ -32,6 +33,8 @@ pub struct Controller {
     pub registers: Registers,
     pub control: Control,
     pub turn: Turn,
+    // Why the last move ended: set with each new status and by a reset.
+    pub reason: Reason,
 }
 
 // Some event gives this status.

@@ -3,13 +3,14 @@ use crate::effect::WriteEffect;
 use crate::record::Controller;
 use crate::record::Registers;
 use control::flags::Control;
+use control::reason::Reason;
 use control::turn::Turn;
 ghost use mathlib.Core.Path.{_≡_};
 ghost use Rattle.controller.specs.Effect.{afterWrite};
 ghost use Rattle.controller.specs.Reset.{reset, resetWith, fresh, completesReset, writePreset};
 
-fn reset_with(buffer: [u8; 68]) -> Controller
-    ensures { λ r. ⌜ r ≡ resetWith buffer ⌝ }
+fn reset_with(buffer: [u8; 68], reason: Reason) -> Controller
+    ensures { λ r. ⌜ r ≡ resetWith buffer reason ⌝ }
 {
     Controller {
         buffer,
@@ -33,6 +34,7 @@ fn reset_with(buffer: [u8; 68]) -> Controller
             mode: false,
         },
         turn: Turn::Off,
+        reason,
     }
 }
 
@@ -41,7 +43,7 @@ impl Controller {
     pub fn fresh() -> Controller
         ensures { λ r. ⌜ r ≡ fresh ⌝ }
     {
-        reset_with([0; 68])
+        reset_with([0; 68], Reason::NoneYet)
     }
 
     // A reset keeps the buffer.
@@ -49,7 +51,7 @@ impl Controller {
         ensures { λ r. ⌜ r ≡ reset self ⌝ }
     {
         let buffer = self.buffer;
-        reset_with(buffer)
+        reset_with(buffer, Reason::Reset)
     }
 
     // The value is 5Ah, and A5h was the accepted write before it.

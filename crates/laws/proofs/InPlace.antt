@@ -5,15 +5,14 @@ use mathlib.Core.Path.{_≡_, refl, sym, ap, _∙_}
 use Prim.Native.Nat.{ℕ, _<_}
 use native.Mathlib.Omega.{arith}
 use Rattle.control.specs.declared.turn.Edge.the-variants.{Stop}
-use Rattle.control.specs.declared.turn.Turn.the-variants.{Host}
 use Rattle.controller.proofs.SoundParts.{parts}
 use Rattle.controller.specs.Access.{writeOf}
 use Rattle.controller.specs.Effect.{afterWrite, afterEvent}
 use Rattle.controller.specs.Event.{eventOf}
 use Rattle.controller.specs.Record.{sound}
 use Rattle.controller.specs.Registers.{wrote}
-use Rattle.controller.specs.Reply.{Outcome, accepts, interruptsAt}
-use Rattle.controller.specs.Setters.{withPlace, withHand, withTurn}
+use Rattle.controller.specs.Reply.{Outcome, accepts, withStatus, interruptsAt}
+use Rattle.controller.specs.Setters.{withPlace, withHand}
 use Rattle.controller.specs.Transfer.{cursor, counted, received}
 use Rattle.controller.specs.declared.effect.EventEffect.the-variants as event
 use Rattle.controller.specs.declared.effect.EventEffect.{EventEffect}
@@ -59,7 +58,7 @@ module _ {c d : Controller} {e : EventEffect} where
     received-applied q next = applied q (next ∙ ap (λ (i : ℕ). counted (withPlace c i byte)) place) refl
 
     pub received-last-applied : {status value : ℕ} → e ≡ event.ReceivedLast status byte value →
-        d ≡ withHand (withTurn (counted (withPlace c at byte)) (Host status Stop)) 0 → Applied c e d
+        d ≡ withHand (withStatus (counted (withPlace c at byte)) status Stop) 0 → Applied c e d
     unfolding afterEvent accepts interruptsAt received
     received-last-applied {status} q next =
-        applied q (next ∙ ap (λ (i : ℕ). withHand (withTurn (counted (withPlace c i byte)) (Host status Stop)) 0) place) refl
+        applied q (next ∙ ap (λ (i : ℕ). withHand (withStatus (counted (withPlace c i byte)) status Stop) 0) place) refl

@@ -87,7 +87,7 @@ pub interrupted : (c : Controller) (status : ℕ) (edge : Edge) (v : ℕ) → Ra
 unfolding interruptsAt
 interrupted c status edge v r g =
     accepted _ v
-    (host-sound (withHand (withTurn c (turn.Host status edge)) 0) status edge
+    (host-sound (withHand (withStatus c status edge) 0) status edge
     (record { pointer = r .pointer; hand = lit≤ tt; moved = r .moved; speed = r .speed }) g refl)
 
 pub status-changed : (c : Controller) (status : ℕ) → Ranges c → T (has givenStatuses status) → Kept (changesStatus c status)

@@ -10,6 +10,8 @@ use Rattle.control.specs.Flags.{flagsOf}
 use Rattle.control.specs.Turn.{off, host, wireTurns, dataTurns, kind, statusOf, edgeOf, at38h}
 use Rattle.control.specs.Writing.{endOr, afterEdge, respondsAt, response}
 use Rattle.control.specs.declared.flags.Control.{Control}
+use Rattle.control.specs.declared.reason.Reason.the-variants.{Reset}
+use Rattle.control.specs.declared.reason.Reason.{Reason}
 use Rattle.control.specs.declared.turn.Edge.the-variants.{Stop, Start}
 use Rattle.control.specs.declared.turn.Edge.{Edge}
 use Rattle.control.specs.declared.turn.Turn.the-variants as turn
@@ -30,11 +32,11 @@ use Rattle.notation.proofs.Cases.{if-false, and-true, and-on, and-no-left, and-
 use Rattle.notation.specs.Choice.{if_then_else_, _and_, _or_, among}
 use Rattle.laws.proofs.Kept.{Kept, ranges, quiet-sound, given-sound, refused, accepted, either, off-quiet}
 
--- the reset record, whatever the buffer holds
-pub reset-sound : (buffer : List ℕ) → sound (resetWith buffer) ≡ true
+-- the reset record, whatever the buffer and the reason
+pub reset-sound : (buffer : List ℕ) (reason : Reason) → sound (resetWith buffer reason) ≡ true
 unfolding resetWith kind
-reset-sound buffer =
-    quiet-sound (resetWith buffer) (record { pointer = lit≤ tt; hand = lit≤ tt; moved = lit≤ tt; speed = lit≤ tt }) off-quiet
+reset-sound buffer reason =
+    quiet-sound (resetWith buffer reason) (record { pointer = lit≤ tt; hand = lit≤ tt; moved = lit≤ tt; speed = lit≤ tt }) off-quiet
 
 -- the flag that arms the software reset does not count
 armed-sound : (c : Controller) (x : Bool) → sound c ≡ true → sound (withArmed c x) ≡ true
@@ -48,7 +50,7 @@ written c s = accepted _ 0 (armed-sound c false s)
 write-preset : (c : Controller) (value : ℕ) → sound c ≡ true → Kept (writePreset c value)
 unfolding writePreset
 write-preset c value s =
-    either (completesReset c value) _ _ (accepted _ 0 (reset-sound (c .buffer))) (accepted _ 0 (armed-sound c _ s))
+    either (completesReset c value) _ _ (accepted _ 0 (reset-sound (c .buffer) Reset)) (accepted _ 0 (armed-sound c _ s))
 
 write-pointer : (c : Controller) (value : ℕ) → sound c ≡ true → Kept (writePointer c value)
 unfolding writePointer moveSound

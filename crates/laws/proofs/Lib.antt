@@ -1,5 +1,6 @@
 -- Laws of the controller that a reader will ask for.
 pub mod Addresses
+pub mod Reasons
 pub mod Refusals
 pub mod Kept
 pub mod KeptEvents

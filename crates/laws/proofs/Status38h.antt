@@ -21,7 +21,7 @@ use Rattle.controller.specs.Event.{eventSound, eventOf}
 use Rattle.controller.specs.I2ccon.{keeps, controlled, badCount, enabled, writeFlags, writeControl}
 use Rattle.controller.specs.Record.{timeoutEnabled, sound}
 use Rattle.controller.specs.Registers.{wrote, writePointer, readData, writeData, writeAtPointer}
-use Rattle.controller.specs.Reply.{Outcome, refuses, accepts, waitsFor, changesStatus}
+use Rattle.controller.specs.Reply.{Outcome, refuses, accepts, waitsFor, withStatus, changesStatus}
 use Rattle.controller.specs.Reset.{resetWith, reset, completesReset, writePreset}
 use Rattle.controller.specs.Setters.{withHand, withMoved, withControl, withTurn}
 use Rattle.controller.specs.Transfer.{byteOut, byteIn}
@@ -131,12 +131,12 @@ module _ (c : Controller) (edge : Edge) (s : sound (withTurn c (Host 0x38 edge))
   unfolding eventSound otherStop waitsFor kind statusOf among if_then_else_
   stops argument = refl
 
-  times-out : (argument : ℕ) → eventSound d 12 argument ≡ (if timeoutEnabled d then accepts (withTurn d (Host 0x78 Stop)) 0 else refuses d 8)
+  times-out : (argument : ℕ) → eventSound d 12 argument ≡ (if timeoutEnabled d then accepts (withStatus d 0x78 Stop) 0 else refuses d 8)
   unfolding eventSound clockHeld changesStatus kind statusOf among if_then_else_ _and_
   times-out argument = by-te (timeoutEnabled d) refl
     where
       by-te : (te : Bool) → timeoutEnabled d ≡ te →
-          eventSound d 12 argument ≡ (if timeoutEnabled d then accepts (withTurn d (Host 0x78 Stop)) 0 else refuses d 8)
+          eventSound d 12 argument ≡ (if timeoutEnabled d then accepts (withStatus d 0x78 Stop) 0 else refuses d 8)
       by-te true e = rw e
       by-te false e = rw e
 
@@ -169,7 +169,7 @@ module _ (c : Controller) (edge : Edge) (s : sound (withTurn c (Host 0x38 edge))
   Agrees number argument =
       (if eqb number 14 then accepts (reset d) 0 else if sound d then eventSound d number argument else refuses d 10) ≡
       (if eqb number 3 then accepts (withTurn d Free) 0
-      else if eqb number 12 and timeoutEnabled d then accepts (withTurn d (Host 0x78 Stop)) 0
+      else if eqb number 12 and timeoutEnabled d then accepts (withStatus d 0x78 Stop) 0
       else if eqb number 14 then accepts (reset d) 0
       else refuses d 8)
 

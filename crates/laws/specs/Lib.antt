@@ -1,3 +1,4 @@
 -- Claims about the rules, stated apart from their proofs.
 pub mod Addresses
+pub mod Reasons
 pub mod Status38h

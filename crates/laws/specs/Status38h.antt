@@ -8,13 +8,13 @@ use Rattle.control.specs.Flags.{flagsOf}
 use Rattle.control.specs.Turn.{at38h}
 use Rattle.control.specs.declared.flags.Control.{Control}
 use Rattle.control.specs.declared.turn.Edge.the-variants.{Stop}
-use Rattle.control.specs.declared.turn.Turn.the-variants.{Off, Host, Free}
+use Rattle.control.specs.declared.turn.Turn.the-variants.{Off, Free}
 use Rattle.control.specs.declared.turn.Turn.{Turn}
 use Rattle.controller.specs.Access.{readOf, writeOf}
 use Rattle.controller.specs.Event.{badArgument, eventOf}
 use Rattle.controller.specs.Record.{timeoutEnabled, sound}
 use Rattle.controller.specs.Registers.{wrote}
-use Rattle.controller.specs.Reply.{Outcome, refuses, accepts}
+use Rattle.controller.specs.Reply.{Outcome, refuses, accepts, withStatus}
 use Rattle.controller.specs.Reset.{reset, completesReset}
 use Rattle.controller.specs.Setters.{withHand, withMoved, withControl, withTurn}
 use Rattle.controller.specs.declared.record.Controller.{Controller}
@@ -31,14 +31,14 @@ turnAfterWriteAt38h c register value =
 abbrev pub storedAt38h : Control → Control → Control
 storedAt38h old k = record { aa = k .aa; ensio = k .ensio; sta = k .sta; sto = old .sto; mode = k .mode }
 
--- What any event does. "Another's STOP then leads to Free with F8h; event 12 with TE 1 gives 78h": the turn changes and nothing else, so hand place and
--- moved count stay. The reset pin resets. Every other is refused, by the first of the lines 1, 2 and 8 that applies.
+-- What any event does. "Another's STOP then leads to Free with F8h; event 12 with TE 1 gives 78h": the turn changes, with 78h the reason, and nothing
+-- else, so hand place and moved count stay. The reset pin resets. Every other is refused, by the first of the lines 1, 2 and 8 that applies.
 abbrev pub eventAt38h : Controller → ℕ → ℕ → Outcome
 eventAt38h c number argument =
     if eqb number 0 or ltb 14 number then refuses c 1
     else if badArgument number argument then refuses c 2
     else if eqb number 3 then accepts (withTurn c Free) 0
-    else if eqb number 12 and timeoutEnabled c then accepts (withTurn c (Host 0x78 Stop)) 0
+    else if eqb number 12 and timeoutEnabled c then accepts (withStatus c 0x78 Stop) 0
     else if eqb number 14 then accepts (reset c) 0
     else refuses c 8
 

@@ -16,7 +16,6 @@ use Rattle.control.specs.declared.flags.Control.{Control}
 use Rattle.control.specs.declared.turn.Called.the-variants as called
 use Rattle.control.specs.declared.turn.Called.{Called}
 use Rattle.control.specs.declared.turn.Edge.{Edge}
-use Rattle.control.specs.declared.turn.Turn.the-variants.{Host}
 use Rattle.control.specs.declared.turn.Turn.{Turn}
 use Rattle.control.specs.declared.writing.Response.the-variants.{Next, Unlisted}
 use Rattle.control.specs.declared.writing.Response.{Response}
@@ -26,9 +25,9 @@ use Rattle.controller.specs.Condition.{outbid, addressLost, dataLost, illegalEd
 use Rattle.controller.specs.Event.{badArgument, eventSound, eventOf}
 use Rattle.controller.specs.I2ccon.{badCount, controlled, enabled, writeFlags, writeControl}
 use Rattle.controller.specs.Record.{place, sound, moveSound}
-use Rattle.controller.specs.Setters.{withBuffer, withHand, withTurn}
+use Rattle.controller.specs.Setters.{withBuffer, withHand}
 use Rattle.controller.specs.Registers.{wrote, writePointer, readData, writeData, atPointer, writeAtPointer}
-use Rattle.controller.specs.Reply.{Outcome, refuses, accepts, waitsFor, interruptsAt, changesStatus}
+use Rattle.controller.specs.Reply.{Outcome, refuses, accepts, waitsFor, withStatus, interruptsAt, changesStatus}
 use Rattle.controller.specs.Reset.{resetWith, completesReset, writePreset}
 use Rattle.controller.specs.Transfer.{cursor, isLast, acknowledgesLast, received, dataOut, addressStatus, byteOut, dataIn, slaveIn, byteIn}
 use Rattle.controller.specs.declared.record.Controller.{Controller}
@@ -65,7 +64,7 @@ interrupting : (c d : Controller) (b : List ℕ) (s s′ : ℕ) (e : Edge) (v v�
     length (d .buffer) ≡ length (c .buffer) → Blind c (interruptsAt d s e v) (interruptsAt (withBuffer d b) s′ e v′)
 unfolding interruptsAt accepts
 interrupting c d b s s′ e v v′ q w h =
-    record { next = ap (λ (n : ℕ). blank (withHand (withTurn d (Host n e)) 0)) q; refused = refl; value = w; sized = h }
+    record { next = ap (λ (n : ℕ). blank (withHand (withStatus d n e) 0)) q; refused = refl; value = w; sized = h }
 
 changing : (c d : Controller) (b : List ℕ) (s : ℕ) → length (d .buffer) ≡ length (c .buffer) →
     Blind c (changesStatus d s) (changesStatus (withBuffer d b) s)

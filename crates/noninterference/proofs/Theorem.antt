@@ -32,7 +32,8 @@ use Rattle.noninterference.specs.OldBytes.{
   otherStart,
   otherStop,
   addressByte,
-  Seen,
+  Compared,
+  compared,
   answered,
   Step,
   ofAccess,
@@ -168,6 +169,10 @@ record StepSame (s s′ : Step) : Type 0 where
   twin : Twin (s .next) (s′ .next)
   seen : s .seen ≡ s′ .seen
 
+-- the reason is one of the items that twins share
+compared-same : (s s′ : Step) → StepSame s s′ → compared s ≡ compared s′
+compared-same s s′ e = simp (e .seen, ap (λ (c : Controller). c .reason) (e .twin .rest))
+
 access-same : (c c′ : Controller) (o o′ : Outcome) → Twin c c′ → Blind c o o′ → Blind c′ o′ o → StepSame (ofAccess o) (ofAccess o′)
 access-same c c′ o o′ t e e′ =
     record { twin = twins o o′ t e e′; seen = ap (λ (r : ℕ). answered r (o .value)) (e .refused) ∙ ap (λ (v : ℕ). answered (o′ .refused) v) (e .value) }
@@ -211,7 +216,7 @@ list-same (i ∷ items) c c′ t =
     let s = step-same i c c′ t in
     let rest = list-same items (step i c .next) (step i c′ .next) (s .twin) in
     record {
-      same = ap (λ (x : Seen). x ∷ observe items (step i c .next)) (s .seen) ∙ ap (λ (l : List Seen). step i c′ .seen ∷ l) (rest .same);
+      same = simp (compared-same _ _ s, rest .same);
       carry = (step-carries i c (t .places), rest .carry);
       carry′ = (step-carries i c′ (t .places′), rest .carry′);
     }
@@ -219,7 +224,7 @@ list-same (i ∷ items) c c′ t =
 -- records that are equal item by item but for the places are twins
 alike-twins : (c c′ : Controller) → AlikeButForPlaces c c′ → Twin c c′
 alike-twins c c′ a = record {
-  rest = simp (a .hand, a .moved, a .pointer, a .armed, a .registers, a .control, a .turn);
+  rest = simp (a .hand, a .moved, a .pointer, a .armed, a .registers, a .control, a .turn, a .reason);
   places = a .bufferLength;
   places′ = a .bufferLength′;
 }

@@ -9,6 +9,7 @@ use mathlib.Core.Path.{_≡_}
 use Prim.Native.Nat.{ℕ}
 use lib.ListN.{length}
 use Rattle.address.specs.declared.number.Direction.the-variants.{Read}
+use Rattle.control.specs.declared.reason.Reason.{Reason}
 use Rattle.controller.specs.Access.{writeOf}
 use Rattle.controller.specs.Event.{eventOf}
 use Rattle.controller.specs.Reply.{Outcome}
@@ -45,14 +46,14 @@ pub data Item : Type 0 where
   otherStop : ℕ → Item
   addressByte : ℕ → Item
 
--- What is compared.
+-- What is compared of what an item answers.
 pub data Seen : Type 0 where
   -- "for each write or event, its refusal number, if any, and its value"
   answered : (refused value : ℕ) → Seen
   -- "for each job its answer, the number beside it, its count, events used, bytes sent and bytes handed up, both in order"
   worked : (answer refused count events : ℕ) (sent handed : List ℕ) → Seen
 
--- one item given to a record: the record that it leaves, and what is compared
+-- one item given to a record: the record that it leaves, and what it answers
 pub record Step : Type 0 where
   pub next : Controller
   pub seen : Seen
@@ -81,11 +82,20 @@ step (otherStart argument) c = ofAccess (eventOf c 2 argument)
 step (otherStop argument) c = ofAccess (eventOf c 3 argument)
 step (addressByte byte) c = ofAccess (eventOf c 5 byte)
 
+-- What is compared of one item: what it answered, and why a move ended in the record that it left. Document 02, request 8: "Demand 3 covers it:
+-- after each one on the list it is the same in both records."
+pub record Compared : Type 0 where
+  pub seen : Seen
+  pub reason : Reason
+
+abbrev pub compared : Step → Compared
+compared s = record { seen = s .seen; reason = s .next .reason }
+
 -- "Each one on the list, accepted or refused, gets the record that the one before left, and nothing else writes the two records
 -- meanwhile."
-unfoldable pub observe : List Item → Controller → List Seen
+unfoldable pub observe : List Item → Controller → List Compared
 observe [] c = []
-observe (i ∷ items) c = step i c .seen ∷ observe items (step i c .next)
+observe (i ∷ items) c = compared (step i c) ∷ observe items (step i c .next)
 
 -- "A finished read is a read answered 0": it hands up exactly what the bus carried (`carried`, runs/specs/OneRun.antt), n of them
 abbrev pub HandsUpCarried : Request → Report → Type 0
@@ -118,6 +128,7 @@ pub record AlikeButForPlaces (c c′ : Controller) : Type 0 where
   pub registers : c .registers ≡ c′ .registers
   pub control : c .control ≡ c′ .control
   pub turn : c .turn ≡ c′ .turn
+  pub reason : c .reason ≡ c′ .reason
   pub bufferLength : length (c .buffer) ≡ 68
   pub bufferLength′ : length (c′ .buffer) ≡ 68
 

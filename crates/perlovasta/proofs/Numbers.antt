@@ -1,10 +1,13 @@
--- The bytes of a number, one at a time, and how large a turn's mark is. Assumes nothing.
+-- The bytes of a number, one at a time, and how large a turn's mark and a reason's number are. Assumes nothing.
 use mathlib.Core.List.{[], _∷_}
 use mathlib.Core.Path.{_≡_, refl, ap}
 use Prim.Native.Nat.{ℕ, suc, _+_, _-_, _<_, _≤_, _/_, _%_}
 use native.Mathlib.Omega.{arith}
 use lib.Dec.{eqb}
 use lib.ListN.{replicate}
+use Rattle.control.specs.Reason.{reasonNumber}
+use Rattle.control.specs.declared.reason.Reason.the-variants.{NoneYet, CountReached, Nack, Outside, ArbitrationLost, Fault, Reset}
+use Rattle.control.specs.declared.reason.Reason.{Reason}
 use Rattle.control.specs.declared.turn.Called.the-variants.{Own, General}
 use Rattle.control.specs.declared.turn.Called.{Called}
 use Rattle.control.specs.declared.turn.Edge.the-variants.{Stop, Start}
@@ -43,3 +46,13 @@ pub called-small : (r : ℕ) (called : Called) → r ≡ calledMark called → r
 unfolding calledMark
 called-small r Own e = omega arith
 called-small r General e = omega arith
+
+-- a reason's number has three bits
+pub reason-small : (r : ℕ) (reason : Reason) → r ≡ reasonNumber reason → r ≤ 6
+reason-small r NoneYet e = omega arith
+reason-small r CountReached e = omega arith
+reason-small r Nack e = omega arith
+reason-small r Outside e = omega arith
+reason-small r ArbitrationLost e = omega arith
+reason-small r Fault e = omega arith
+reason-small r Reset e = omega arith

@@ -2,11 +2,13 @@
 -- controller record).
 use mathlib.Core.Bool.{Bool}
 use mathlib.Core.List.{List, [], _∷_}
-use Prim.Native.Nat.{ℕ, _+_, _%_}
+use Prim.Native.Nat.{ℕ, _+_, _*_, _%_}
 use lib.Dec.{eqb}
 use Rattle.answer.specs.Refusal.{refusalOf, valueOf}
 use Rattle.answer.specs.declared.Answer.{Answer}
+use Rattle.control.specs.Reason.{reasonNumber}
 use Rattle.control.specs.Turn.{off, host, free, busy, listen, address, send, receive, slaveReceive, slaveSend, stopping, restarting}
+use Rattle.control.specs.declared.reason.Reason.{Reason}
 use Rattle.control.specs.declared.turn.Called.the-variants.{Own, General}
 use Rattle.control.specs.declared.turn.Called.{Called}
 use Rattle.control.specs.declared.turn.Edge.the-variants.{Stop, Start}
@@ -43,16 +45,19 @@ turnNumber SlaveSend = slaveSend
 turnNumber Stopping = stopping
 turnNumber Restarting = restarting
 
--- the pointer, and 128 more where the software reset is armed. A pointer is at most 7: of a larger number the low seven bits count.
-unfoldable pub pointerByte : ℕ → Bool → ℕ
-pointerByte pointer armed = if armed then pointer % 128 + 128 else pointer % 128
+-- In hexadecimal: the low digit is the pointer, the high digit the reason's number, and 8 more where the software reset is armed. (A pointer is at most
+-- 7: of a larger number the low four bits count.)
+unfoldable pub pointerByte : ℕ → Reason → Bool → ℕ
+pointerByte pointer reason armed =
+    let digits = 16 * reasonNumber reason + pointer % 16 in
+    if armed then 128 + digits else digits
 
 -- an answer in the paper's numbers, with the record after it
 unfoldable pub leaves : Answer → Controller → Outcome
 leaves answer c = record { next = c; refused = refusalOf answer; value = valueOf answer }
 
--- refusal number (0 accepted), value, what registers 0 and 3 read after it, hand place, moved count, pointer, turn
+-- refusal number (0 accepted), value, what registers 0 and 3 read after it, hand place, moved count, pointer with reason and armed, turn
 unfoldable pub entryOf : Outcome → List ℕ
 entryOf o =
     o .refused ∷ o .value ∷ (readOf (o .next) 0) .value ∷ (readOf (o .next) 3) .value ∷ o .next .hand ∷ o .next .moved ∷
-    pointerByte (o .next .pointer) (o .next .armed) ∷ turnNumber (o .next .turn) ∷ []
+    pointerByte (o .next .pointer) (o .next .reason) (o .next .armed) ∷ turnNumber (o .next .turn) ∷ []

@@ -1,5 +1,6 @@
 // The eight bytes of the log for one group.
 use answer::Answer;
+use control::reason::Reason;
 use control::turn::Called;
 use control::turn::Edge;
 use control::turn::Turn;
@@ -52,12 +53,12 @@ fn number_turn(turn: Turn) -> u8
     }
 }
 
-// The pointer, with 128 where a software reset is armed.
-fn mark_pointer(pointer: u8, armed: bool) -> u8
-    ensures { λ r. ⌜ r ≡ pointerByte pointer armed ⌝ }
+// The pointer, the reason's number above it, and the highest bit where a software reset is armed.
+fn mark_pointer(pointer: u8, reason: Reason, armed: bool) -> u8
+    ensures { λ r. ⌜ r ≡ pointerByte pointer reason armed ⌝ }
 {
-    let low = pointer % 128;
-    if armed { low + 128 } else { low }
+    let digits = 16 * reason.number() + pointer % 16;
+    if armed { 128 + digits } else { digits }
 }
 
 // The bytes for one group: what it answered, and the record after it. (Of a sound record registers 0 and 3 read these two bytes.)
@@ -67,6 +68,7 @@ pub(crate) fn log_entry(answer: Answer, c: Controller) -> [u8; 8]
 {
     let turn = c.turn;
     let flags = c.control;
+    let reason = c.reason;
     [
         answer.refused(),
         answer.value(),
@@ -74,7 +76,7 @@ pub(crate) fn log_entry(answer: Answer, c: Controller) -> [u8; 8]
         flags.byte(turn.interrupts()),
         c.hand,
         c.moved,
-        mark_pointer(c.pointer, c.armed),
+        mark_pointer(c.pointer, reason, c.armed),
         number_turn(turn),
     ]
 }

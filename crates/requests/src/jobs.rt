@@ -2,6 +2,7 @@
 use address::number::Address;
 use address::number::Direction;
 use control::flags::Control;
+use control::reason::Reason;
 use control::turn::Turn;
 use controller::record::Controller;
 use controller::record::Registers;
@@ -35,6 +36,7 @@ pub fn fresh_enabled() -> Controller
             mode: false,
         },
         turn: Turn::Free,
+        reason: Reason::NoneYet,
     }
 }
 

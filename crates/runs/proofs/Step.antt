@@ -12,11 +12,10 @@ use Rattle.answer.specs.declared.ending.Ending.{Ending}
 use Rattle.control.proofs.Turning.{idle-not-38h}
 use Rattle.control.specs.Turn.{host, statusOf, at38h}
 use Rattle.control.specs.declared.turn.Edge.the-variants.{Stop}
-use Rattle.control.specs.declared.turn.Turn.the-variants as turn
 use Rattle.controller.specs.Condition.{matches}
 use Rattle.controller.specs.Record.{sound}
-use Rattle.controller.specs.Reply.{Outcome, refuses, accepts, interruptsAt, gives}
-use Rattle.controller.specs.Setters.{withHand, withTurn}
+use Rattle.controller.specs.Reply.{Outcome, refuses, accepts, withStatus, interruptsAt, gives}
+use Rattle.controller.specs.Setters.{withHand}
 use Rattle.controller.specs.declared.record.Controller.{Controller}
 use Rattle.driver.specs.Run.{taking}
 use Rattle.laws.proofs.Addresses.{silent-without-aa}
@@ -36,7 +35,7 @@ pub record KeepsOrEnds (table : Table) (job : Job) (payload carried : List ℕ) 
 
 -- the record after an event that gave a status
 abbrev pub hosted : Controller → ℕ → Controller
-hosted c status = withHand (withTurn c (turn.Host status Stop)) 0
+hosted c status = withHand (withStatus c status Stop) 0
 
 module _ (table : Table) {job : Job} {payload carried : List ℕ} {sent : ℕ} {p : Progress} (g : Good job payload carried sent p) where
   abbrev S : ℕ → ℕ → Outcome → Type 0

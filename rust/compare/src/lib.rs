@@ -11,6 +11,7 @@ pub mod difference;
 pub mod group;
 pub mod job_case;
 pub mod memory;
+pub mod pointer_byte;
 pub mod random;
 pub mod reference;
 pub mod row;

@@ -1,6 +1,7 @@
 //! The independent model behind the library's interface: fresh controllers, numbers and bytes.
 
 use crate::group::{CONTROL, Group, READ, WRITE};
+use crate::pointer_byte::PointerByte;
 use model::{Called, Controller, Edge, Job, Kind, Refusal, Report, Turn, run_job};
 use perlovasta::{ENTRY_LEN, GROUP_LEN, REPORT_LEN};
 
@@ -98,7 +99,11 @@ fn entry(answer: Result<u8, Refusal>, controller: &Controller) -> [u8; ENTRY_LEN
         Ok(value) => (0, value),
         Err(refusal) => (refusal.number(), 0),
     };
-    let armed = u8::from(controller.armed()) << 7;
+    let pointer = PointerByte {
+        pointer: controller.pointer(),
+        reason: controller.reason().number(),
+        armed: controller.armed(),
+    };
     [
         refusal,
         value,
@@ -106,7 +111,7 @@ fn entry(answer: Result<u8, Refusal>, controller: &Controller) -> [u8; ENTRY_LEN
         controller.control(),
         controller.hand(),
         controller.moved(),
-        controller.pointer() + armed,
+        pointer.byte(),
         turn_number(controller.turn()),
     ]
 }

@@ -1,5 +1,6 @@
 //! What a comparison has to reach, each with its count.
 
+use crate::pointer_byte::REASONS;
 use crate::table::{Cell, Section};
 use crate::tally::{EVENTS, LostEnd, Tally, move_index};
 
@@ -48,6 +49,7 @@ fn trace_sections(tally: &Tally) -> Vec<Section> {
         Cell::new("pin", tally.event[14]),
         Cell::new("software", tally.software_reset),
     ];
+    let fresh = vec![Cell::new(REASONS[0], tally.reason_fresh)];
     let kept = vec![Cell::new("write with ENSIO 1", tally.lost_kept)];
     let not_run = ["length", "kind of a group", "length of the log"];
     let not_run = not_run.into_iter().zip(tally.not_run);
@@ -59,6 +61,9 @@ fn trace_sections(tally: &Tally) -> Vec<Section> {
             .noting("refusal 10: not reachable from a fresh controller"),
         Section::new("event accepted", events.collect()),
         Section::new("reset by", resets),
+        Section::new("reason set", reasons(tally.reason_set)),
+        Section::new("reason kept", reasons(tally.reason_kept)),
+        Section::new("reason when fresh", fresh),
         Section::new("38h left by", lost_ends(tally)),
         Section::new("38h kept by", kept),
         Section::new("move finished", moves(tally)),
@@ -68,6 +73,11 @@ fn trace_sections(tally: &Tally) -> Vec<Section> {
             not_run.map(|(l, c)| Cell::new(l, c)).collect(),
         ),
     ]
+}
+
+fn reasons(counts: [u64; REASONS.len()]) -> Vec<Cell> {
+    let named = REASONS.into_iter().zip(counts);
+    named.map(|(name, count)| Cell::new(name, count)).collect()
 }
 
 fn lost_ends(tally: &Tally) -> Vec<Cell> {
@@ -150,6 +160,7 @@ fn job_sections(tally: &Tally) -> Vec<Section> {
 #[cfg(test)]
 mod tests {
     use super::sections;
+    use crate::pointer_byte::REASONS;
     use crate::table::missing;
     use crate::tally::Tally;
 
@@ -159,6 +170,11 @@ mod tests {
         assert!(missing.contains(&"status given A0h".to_owned()));
         assert!(missing.contains(&"turn entered SlaveReceive GC".to_owned()));
         assert!(missing.contains(&"refusal 9".to_owned()));
+        for reason in REASONS {
+            assert!(missing.contains(&format!("reason set {reason}")));
+            assert!(missing.contains(&format!("reason kept {reason}")));
+        }
+        assert!(missing.contains(&"reason when fresh none yet".to_owned()));
         assert!(missing.contains(&"38h left by another's STOP".to_owned()));
         assert!(missing.contains(&"38h kept by write with ENSIO 1".to_owned()));
         assert!(missing.contains(&"job answered 29".to_owned()));

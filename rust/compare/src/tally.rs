@@ -2,10 +2,12 @@
 
 mod job;
 mod lost;
+mod reason;
 mod trace;
 
 pub use lost::LostEnd;
 
+use crate::pointer_byte::REASONS;
 use crate::trace_case::Flaw;
 use perlovasta::OUT_LEN;
 
@@ -35,6 +37,12 @@ pub struct Tally {
     pub event: [u64; EVENTS],
     /// Software resets.
     pub software_reset: u64,
+    /// Reasons that a new status or a reset set, by their number in a log.
+    pub reason_set: [u64; REASONS.len()],
+    /// Reasons that any other accepted group kept.
+    pub reason_kept: [u64; REASONS.len()],
+    /// Fresh controllers that had none yet.
+    pub reason_fresh: u64,
     /// Ends of 38h, in the order of [`LostEnd`].
     pub lost_left: [u64; 5],
     /// I2CCON writes with ENSIO 1 that kept 38h.
@@ -76,6 +84,9 @@ impl Tally {
             refusal: [0; 11],
             event: [0; EVENTS],
             software_reset: 0,
+            reason_set: [0; REASONS.len()],
+            reason_kept: [0; REASONS.len()],
+            reason_fresh: 0,
             lost_left: [0; 5],
             lost_kept: 0,
             moves: [0; 8],

@@ -5,6 +5,7 @@ mod con;
 mod events;
 
 use crate::address::Address;
+use crate::reason::Reason;
 use crate::refusal::Refusal;
 use crate::turn::Turn;
 
@@ -52,6 +53,8 @@ pub struct Controller {
     pointer: u8,
     /// Whether A5h to I2CPRESET was the last accepted write.
     armed: bool,
+    /// Why a move ended.
+    reason: Reason,
     /// The place where I2CDAT reads or writes next.
     hand: u8,
     /// Data bytes moved since the last accepted I2CCON write.
@@ -70,13 +73,15 @@ pub struct Controller {
 }
 
 impl Controller {
-    /// A controller after reset, with all places of the buffer at zero.
+    /// A controller as after reset, but with no reason yet, and with all
+    /// places of the buffer at zero.
     pub fn fresh() -> Self {
         let mut controller = Controller {
             turn: Turn::Off,
             con: 0,
             pointer: 0,
             armed: false,
+            reason: Reason::NoneYet,
             hand: 0,
             moved: 0,
             count: 0,
@@ -88,6 +93,8 @@ impl Controller {
             buffer: [0; PLACES as usize],
         };
         controller.reset();
+        // No reset came: "the program's fresh controller: none yet".
+        controller.reason = Reason::NoneYet;
         controller
     }
 
@@ -97,6 +104,7 @@ impl Controller {
         self.con = 0x00;
         self.pointer = 0;
         self.armed = false;
+        self.reason = Reason::Reset;
         self.hand = 0;
         self.moved = 0;
         self.count = 0x01;
@@ -266,6 +274,12 @@ impl Controller {
     #[inline]
     pub fn armed(&self) -> bool {
         self.armed
+    }
+
+    /// Why a move ended.
+    #[inline]
+    pub fn reason(&self) -> Reason {
+        self.reason
     }
 
     /// The 68 places.

@@ -4,8 +4,8 @@
 //! [`Controller`] takes register accesses and bus events and changes its
 //! record in place; a refused access or event leaves the whole record as it
 //! was. [`Controller::called_by`] tells what an address byte calls, and by
-//! which address. [`run_job`] runs one [`Job`] over a script of (event,
-//! argument) pairs.
+//! which address, and [`Controller::reason`] why a move ended. [`run_job`]
+//! runs one [`Job`] over a script of (event, argument) pairs.
 
 #![forbid(unsafe_code)]
 #![warn(missing_docs)]
@@ -14,6 +14,7 @@ mod address;
 mod call;
 mod controller;
 mod driver;
+mod reason;
 mod refusal;
 mod turn;
 
@@ -21,5 +22,6 @@ pub use address::{Address, Direction};
 pub use call::{Call, Matched};
 pub use controller::{Controller, PLACES};
 pub use driver::{Answer, Job, Kind, OUT_LENGTH, Report, run_job};
+pub use reason::Reason;
 pub use refusal::Refusal;
 pub use turn::{Called, Edge, Turn};

@@ -1,5 +1,8 @@
 //! The cases a to m, the printed example, and checks of each refusal, each
-//! I2CCON rule and each event.
+//! I2CCON rule and each event. Why a move ended has a module of its own.
+
+#[path = "paper/reason.rs"]
+mod reason;
 
 use model::{
     Answer, Call, Called, Controller, Direction, Edge, Job, Kind, Matched, Refusal, Report, Turn,
@@ -1311,6 +1314,16 @@ enum Step {
     Event(u8, u8),
 }
 
+impl Step {
+    fn take(self, c: &mut Controller) -> Result<u8, Refusal> {
+        match self {
+            Step::Read(register) => c.read(register),
+            Step::Write(register, value) => c.write(register, value),
+            Step::Event(event, argument) => c.event(event, argument),
+        }
+    }
+}
+
 /// Every access and every event, and the first numbers that there aren't.
 fn steps() -> Vec<Step> {
     let values = |number: u8| (0..=255).map(move |value| (number, value));
@@ -1338,11 +1351,7 @@ fn leaves_38h(before: &Controller, te: bool, step: Step) -> bool {
 
 fn check_step_at_38h(before: &Controller, te: bool, step: Step) {
     let mut c = before.clone();
-    let result = match step {
-        Step::Read(register) => c.read(register),
-        Step::Write(register, value) => c.write(register, value),
-        Step::Event(event, argument) => c.event(event, argument),
-    };
+    let result = step.take(&mut c);
     let leaves = leaves_38h(before, te, step);
     assert_eq!(c.turn() != LOST, leaves, "{step:?} {before:?}");
     assert_eq!(c.status() != 0x38, leaves, "{step:?} {before:?}");

@@ -1,6 +1,6 @@
 //! The log of a trace, entry by entry.
 
-use crate::{ENTRY_LEN, Refusal, Turn};
+use crate::{ENTRY_LEN, Reason, Refusal, Turn};
 use std::iter::FusedIterator;
 use std::slice;
 
@@ -25,17 +25,20 @@ pub struct Entry {
     pub armed: bool,
     /// What the controller waits for.
     pub turn: Turn,
+    /// Why the last move ended.
+    pub reason: Reason,
 }
 
-/// In the byte of the pointer: armed.
+/// In the byte of the pointer: armed, and the pointer itself. Between them stands the reason.
 const ARMED: u8 = 0x80;
+const POINTER: u8 = 0x0F;
 
 impl Entry {
     /// The entry in its eight bytes.
     ///
     /// # Panics
     ///
-    /// For numbers that no refusal or turn has; the library is proved not to give them.
+    /// For numbers that no refusal, turn or reason has; the library is proved not to give them.
     fn typed(bytes: [u8; ENTRY_LEN]) -> Self {
         let [refused, value, status, control, hand, moved, pointer, turn] = bytes;
         Entry {
@@ -45,12 +48,18 @@ impl Entry {
             control,
             hand,
             moved,
-            pointer: pointer & !ARMED,
+            pointer: pointer & POINTER,
             armed: pointer & ARMED != 0,
             turn: Turn::from_number(turn, status)
                 .unwrap_or_else(|| panic!("no turn has number {turn} at status {status:02X}h")),
+            reason: reason((pointer & !ARMED) >> 4),
         }
     }
+}
+
+/// The reason of that number.
+fn reason(number: u8) -> Reason {
+    Reason::from_number(number).unwrap_or_else(|| panic!("no reason has number {number}"))
 }
 
 /// The refusal of that number, none for 0.
@@ -98,7 +107,7 @@ impl FusedIterator for Entries<'_> {}
 #[cfg(test)]
 mod tests {
     use super::Entry;
-    use crate::{Called, Edge, Refusal, Turn};
+    use crate::{Called, Edge, Reason, Refusal, Turn};
 
     fn turn(number: u8, status: u8) -> Turn {
         Entry::typed([0, 0, status, 0, 0, 0, 0, number]).turn
@@ -119,10 +128,11 @@ mod tests {
     }
 
     #[test]
-    fn armed_stands_above_the_pointer() {
-        let entry = Entry::typed([9, 0, 0xF8, 0x40, 68, 2, 0x85, 2]);
+    fn armed_and_reason_stand_above_the_pointer() {
+        let entry = Entry::typed([9, 0, 0xF8, 0x40, 68, 2, 0xA5, 2]);
         assert_eq!(entry.refusal, Some(Refusal::Inaccessible));
         assert_eq!((entry.pointer, entry.armed), (5, true));
+        assert_eq!(entry.reason, Reason::Nack);
         assert_eq!((entry.hand, entry.moved, entry.control), (68, 2, 0x40));
     }
 
@@ -136,6 +146,22 @@ mod tests {
     #[should_panic(expected = "no turn has number 17 at status 08h")]
     fn a_start_that_ended_nothing() {
         turn(17, 0x08);
+    }
+
+    #[test]
+    fn reasons() {
+        for reason in Reason::ALL {
+            let byte = 0x07 + 16 * reason.number();
+            let entry = Entry::typed([0, 0, 0xF8, 0, 0, 0, byte, 0]);
+            assert_eq!((entry.reason, entry.pointer), (reason, 7));
+            assert!(!entry.armed);
+        }
+    }
+
+    #[test]
+    #[should_panic(expected = "no reason has number 7")]
+    fn unknown_reason() {
+        Entry::typed([0, 0, 0xF8, 0, 0, 0, 0x70, 0]);
     }
 
     #[test]

@@ -51,6 +51,7 @@
 mod answer;
 mod entry;
 mod job;
+mod reason;
 mod refusal;
 #[allow(unsafe_code)]
 pub mod sys;
@@ -60,6 +61,7 @@ mod turn;
 pub use answer::Answer;
 pub use entry::{Entries, Entry};
 pub use job::{Kind, Report, run_job};
+pub use reason::Reason;
 pub use refusal::Refusal;
 pub use trace::{TraceError, run_trace};
 pub use turn::{Called, Edge, Turn};

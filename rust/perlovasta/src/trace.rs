@@ -41,8 +41,8 @@ impl fmt::Display for TraceError {
 
 impl Error for TraceError {}
 
-/// Runs one trace on a fresh controller, after reset and not enabled, and hands back what came of
-/// each group.
+/// Runs one trace on a fresh controller, as after reset but with no [reason](crate::Reason) yet, and
+/// not enabled, and hands back what came of each group.
 ///
 /// A group is three bytes: `[0, register, _]` reads, `[1, register, value]` writes,
 /// `[2, event, argument]` gives a bus event. `log` has [`ENTRY_LEN`] bytes for each group; they are

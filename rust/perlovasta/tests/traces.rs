@@ -1,6 +1,6 @@
 //! Traces: the cases g to m of document 01, and traces that are not run.
 
-use perlovasta::{ENTRY_LEN, Entry, Refusal, TraceError, Turn, run_trace};
+use perlovasta::{ENTRY_LEN, Entry, Reason, Refusal, TraceError, Turn, run_trace};
 
 /// In the log before a trace, to see what was written.
 const OLD: u8 = 0xEE;
@@ -51,6 +51,7 @@ fn fresh() {
         pointer: 0,
         armed: false,
         turn: Turn::Off,
+        reason: Reason::NoneYet,
     };
     assert_eq!(run(&[read(0)]), [expected]);
     for (pointer, value) in [0x01, 0xE0, 0x9D, 0x86, 0xFF].into_iter().enumerate() {
@@ -121,6 +122,34 @@ fn software_reset() {
     assert!(armed.armed && armed.pointer == 5);
     let reset = last(&[&set(5, 0xA5)[..], &[write(2, 0x5A)]].concat());
     assert!(!reset.armed && reset.pointer == 0);
+}
+
+/// Request 8 of document 02: each reason once, in the order in which a trace meets them.
+#[test]
+fn reasons() {
+    let sending = [write(1, 0xA0), write(3, 0x40)];
+    let sent = |last| [&STARTED[..], &sending, &[last]].concat();
+    // I2CADR is E0h after reset.
+    let called = [write(3, 0xC0), event(2, 0), event(5, 0xE0), write(3, 0xC0)];
+    let cases = [
+        (STARTED.to_vec(), Reason::NoneYet),
+        (sent(event(6, 0)), Reason::CountReached),
+        (sent(event(6, 1)), Reason::Nack),
+        ([&called[..], &[event(3, 0)]].concat(), Reason::Outside),
+        (sent(event(8, 0x02)), Reason::ArbitrationLost),
+        (sent(event(10, 0)), Reason::Fault),
+        (vec![event(14, 0)], Reason::Reset),
+    ];
+    for (groups, reason) in cases {
+        assert_eq!(last(&groups).reason, reason);
+        // A write keeps it, here one with ENSIO 0, or the refusal of one at a fault; and a read does.
+        let kept = run(&[&groups[..], &[write(3, 0), read(0)]].concat());
+        assert!(
+            kept[groups.len()..]
+                .iter()
+                .all(|entry| entry.reason == reason)
+        );
+    }
 }
 
 #[test]

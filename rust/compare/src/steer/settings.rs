@@ -5,10 +5,11 @@ use crate::random::Random;
 use crate::steer::pair;
 
 /// Pointer of I2CPRESET.
-const PRESET: u8 = 5;
-/// I2CPRESET: arms the software reset, and resets.
+pub const PRESET: u8 = 5;
+/// I2CPRESET: arms the software reset.
 const ARM: u8 = 0xA5;
-const RESET: u8 = 0x5A;
+/// I2CPRESET: resets if armed.
+pub const RESET: u8 = 0x5A;
 
 /// A pointer, then the register there written, read or both.
 pub fn setting(random: &mut Random) -> Vec<Group> {

@@ -1,9 +1,12 @@
 //! What a trace and its log count for.
 
 use super::{EVENTS, Tally, move_index};
-use crate::group::{CONTROL, EVENT, Group, WRITE};
+use crate::group::{CONTROL, EVENT, Group, INDIRECT, WRITE, event, write};
+use crate::pointer_byte::PointerByte;
 use crate::steer::LOST;
 use crate::steer::control::{AA, ENSIO, MODE, STA, STO};
+use crate::steer::pair::RESET;
+use crate::steer::settings;
 use perlovasta::{ENTRY_LEN, GROUP_LEN};
 
 /// The controller as an entry of the log shows it.
@@ -11,7 +14,7 @@ use perlovasta::{ENTRY_LEN, GROUP_LEN};
 struct Seen {
     status: u8,
     control: u8,
-    pointer: u8,
+    pointer: PointerByte,
     turn: u8,
 }
 
@@ -19,35 +22,48 @@ struct Seen {
 const FRESH: Seen = Seen {
     status: NO_STATUS,
     control: 0,
-    pointer: 0,
+    pointer: PointerByte::from_byte(0),
     turn: 0,
 };
 
 const NO_STATUS: u8 = 0xF8;
-/// Pointer 05h, I2CPRESET, and armed.
-const ARMED: u8 = 0x85;
+
+impl Seen {
+    const fn in_entry(entry: &[u8; ENTRY_LEN]) -> Self {
+        let &[_, _, status, control, _, _, pointer, turn] = entry;
+        Seen {
+            status,
+            control,
+            pointer: PointerByte::from_byte(pointer),
+            turn,
+        }
+    }
+
+    /// Whether this group resets here, by software.
+    fn is_software_reset(self, group: Group) -> bool {
+        let PointerByte { pointer, armed, .. } = self.pointer;
+        armed && pointer == settings::PRESET && group == write(INDIRECT, settings::RESET)
+    }
+}
 
 impl Tally {
     /// Counts a trace that was run.
     pub fn count_trace(&mut self, trace: &[u8], log: &[u8]) {
         let (groups, _) = trace.as_chunks::<GROUP_LEN>();
-        let (entries, _) = log.as_chunks::<ENTRY_LEN>();
+        // A longer log keeps old bytes after these.
+        let entries = &log.as_chunks::<ENTRY_LEN>().0[..groups.len()];
         self.traces += 1;
         self.groups += groups.len() as u64;
+        if let Some(entry) = entries.first() {
+            self.count_first_reason(Seen::in_entry(entry).pointer.reason);
+        }
         let mut before = FRESH;
         for (&group, entry) in groups.iter().zip(entries) {
-            let &[refusal, _, status, control, _, _, pointer, turn] = entry;
-            let after = Seen {
-                status,
-                control,
-                pointer,
-                turn,
-            };
+            let after = Seen::in_entry(entry);
             self.count_tried(group, before);
-            if refusal == 0 {
-                self.count_accepted(group, before, after);
-            } else {
-                self.refusal[usize::from(refusal)] += 1;
+            match entry[0] {
+                0 => self.count_accepted(group, before, after),
+                refusal => self.refusal[usize::from(refusal)] += 1,
             }
             before = after;
         }
@@ -66,21 +82,25 @@ impl Tally {
         }
     }
 
-    fn count_accepted(&mut self, [kind, place, value]: Group, before: Seen, after: Seen) {
-        if before.status != after.status {
+    fn count_accepted(&mut self, group: Group, before: Seen, after: Seen) {
+        let is_new = before.status != after.status;
+        if is_new {
             self.status[usize::from(after.status)] += 1;
         }
         if before.turn != after.turn {
             self.turn[usize::from(after.turn)] += 1;
         }
         if before.status == LOST {
-            self.count_at_lost([kind, place, value], after.status != LOST);
+            self.count_at_lost(group, after.status != LOST);
         }
-        match (kind, place) {
-            (EVENT, _) => self.count_event(place, before, after),
-            (WRITE, 2) if before.pointer == ARMED && value == 0x5A => self.software_reset += 1,
-            _ => {}
+        if let [EVENT, number, _] = group {
+            self.count_event(number, before, after);
         }
+        let by_software = before.is_software_reset(group);
+        self.software_reset += u64::from(by_software);
+        let is_reset = by_software || group == event([RESET, 0]);
+        let is_set = is_reset || is_new && after.status != NO_STATUS;
+        self.count_reason(before.pointer.reason, after.pointer.reason, is_set);
     }
 
     fn count_event(&mut self, event: u8, before: Seen, after: Seen) {

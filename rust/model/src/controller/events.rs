@@ -3,6 +3,7 @@
 use super::{Controller, bit};
 use crate::address::{AddressByte, Direction};
 use crate::call::{Call, Matched};
+use crate::reason::Reason;
 use crate::refusal::Refusal;
 use crate::turn::{Called, Edge, Turn};
 
@@ -38,8 +39,9 @@ impl Controller {
         }
     }
 
-    /// Leads to Host. The hand place goes back to 0 if SI becomes 1; at 38h,
-    /// the one status from which an event gives another, it is 1 already.
+    /// Leads to Host and sets the reason. The hand place goes back to 0 if SI
+    /// becomes 1; at 38h, the one status from which an event gives another, it
+    /// is 1 already.
     fn give(&mut self, status: u8) {
         self.give_with(status, Edge::Stop);
     }
@@ -49,6 +51,7 @@ impl Controller {
             self.hand = 0;
         }
         self.turn = Turn::Host { status, edge };
+        self.reason = Reason::of_status(status);
     }
 
     /// Event 1.

@@ -1,10 +1,11 @@
-//! Soundness, refusal 10 and a kept STO, which need records that no access
-//! leads to, and the whole record after the match of events 5 and 8 and after
-//! all that can come at 38h.
+//! Soundness, refusal 10, a kept STO and any reason in any turn, which need
+//! records that no access leads to, and the whole record after the match of
+//! events 5 and 8 and after all that can come at 38h.
 
 use super::{Controller, bit};
 use crate::address::Direction;
 use crate::call::Call;
+use crate::reason::Reason;
 use crate::refusal::Refusal;
 use crate::turn::{Called, Edge, Turn};
 
@@ -65,7 +66,9 @@ fn unsound_records_are_refused_10() {
         assert_eq!(c, record);
         // Event 14 is taken.
         assert_eq!(c.event(14, 0), Ok(0));
-        assert_eq!(c, Controller::fresh());
+        let mut reset = Controller::fresh();
+        reset.reason = Reason::Reset;
+        assert_eq!(c, reset);
     }
 }
 
@@ -111,13 +114,14 @@ fn own_and_aa() -> impl Iterator<Item = (u8, u8)> {
     (0..=255).flat_map(|own| [0, bit::AA].map(|aa| (own, aa)))
 }
 
-/// An enabled record in this turn, the hand place not at 0.
+/// An enabled record in this turn, the hand place not at 0 and with a reason.
 fn matching(turn: Turn, own: u8, aa: u8) -> Controller {
     let mut c = Controller::fresh();
     c.turn = turn;
     c.con = bit::ENSIO | aa;
     c.own = own;
     c.hand = 5;
+    c.reason = Reason::Nack;
     c
 }
 
@@ -148,15 +152,19 @@ fn event_5_by_the_match() {
         let before = matching(Turn::Listen, own, aa);
         for byte in 0..=255 {
             let matched = before.called_by(byte);
-            // SI becomes 1 for the three codes, so the hand place goes to 0.
-            let (turn, hand, value) = match matched.call {
-                Call::General => (host(0xD0), 0, 0),
-                Call::Own(Direction::Write) => (host(0x60), 0, 0),
-                Call::Own(Direction::Read) => (host(0xA8), 0, 0),
-                Call::None => (Turn::Busy, 5, 1),
+            let (turn, value) = match matched.call {
+                Call::General => (host(0xD0), 0),
+                Call::Own(Direction::Write) => (host(0x60), 0),
+                Call::Own(Direction::Read) => (host(0xA8), 0),
+                Call::None => (Turn::Busy, 1),
             };
             let mut after = before.clone();
-            (after.turn, after.hand) = (turn, hand);
+            after.turn = turn;
+            if turn != Turn::Busy {
+                // SI becomes 1 for the three codes, so the hand place goes to
+                // 0, and no move ended.
+                (after.hand, after.reason) = (0, Reason::NoneYet);
+            }
             let mut c = before.clone();
             assert_eq!(c.event(5, byte), Ok(value));
             assert_eq!(c, after);
@@ -182,7 +190,7 @@ fn check_event_8(before: &Controller, winner: u8) {
     };
     let mut after = before.clone();
     after.turn = host(status);
-    after.hand = 0;
+    (after.hand, after.reason) = (0, Reason::ArbitrationLost);
     assert_eq!(c.event(8, winner), Ok(value));
     assert_eq!(c, after);
     assert_eq!(c.called_by(winner), matched);
@@ -258,7 +266,7 @@ fn check_event_at_38h(before: &Controller, event: u8, argument: u8) {
             Ok(0)
         }
         (12, 0) if before.has_timeout() => {
-            after.turn = host(0x78);
+            (after.turn, after.reason) = (host(0x78), Reason::Fault);
             Ok(0)
         }
         (14, 0) => {
@@ -294,6 +302,99 @@ fn sto_stays_where_it_is_not_stored() {
             if c.write(3, value).is_ok() && c.turn != Turn::Stopping {
                 assert_eq!(c.con & bit::STO, old & bit::STO);
             }
+        }
+    }
+}
+
+/// Every turn, and Host with every byte as its status.
+fn turns() -> impl Iterator<Item = Turn> {
+    let start = Turn::Host {
+        status: 0xA0,
+        edge: Edge::Start,
+    };
+    let turns = [
+        start,
+        Turn::Off,
+        Turn::Free,
+        Turn::Busy,
+        Turn::Listen,
+        Turn::Address,
+        Turn::Send,
+        Turn::Receive,
+        Turn::SlaveReceive(Called::Own),
+        Turn::SlaveReceive(Called::General),
+        Turn::SlaveSend,
+        Turn::Stopping,
+        Turn::Restarting,
+    ];
+    turns.into_iter().chain((0..=255).map(host))
+}
+
+/// Sound records in every turn: AA 0 and AA 1, where a byte ends the move, and
+/// Buffered mode, where it goes on and where the software reset is armed.
+fn sound_records() -> impl Iterator<Item = Controller> {
+    let record = |turn, con| {
+        let mut c = matching(turn, 0xE1, 0);
+        (c.con, c.count, c.buffer[0]) = (con, 2, 0xF0);
+        if con & bit::MODE != 0 {
+            (c.pointer, c.armed) = (5, true);
+        }
+        c
+    };
+    let by_control = move |turn| [0x60, 0xC0, 0xE1].map(|con| record(turn, con));
+    turns().flat_map(by_control).filter(Controller::is_sound)
+}
+
+/// The reason after a call: "set with each new status but F8h, and by a
+/// reset, and otherwise kept".
+fn check_reason(
+    before: &Controller,
+    reset: bool,
+    call: impl FnOnce(&mut Controller) -> Result<u8, Refusal>,
+) {
+    let mut c = before.clone();
+    let result = call(&mut c);
+    let status = c.status();
+    let expected = if reset {
+        Reason::Reset
+    } else if status != 0xF8 && status != before.status() {
+        Reason::of_status(status)
+    } else {
+        before.reason
+    };
+    assert_eq!(c.reason, expected, "{result:?} after {before:?}");
+}
+
+fn check_reason_after_every_call(before: &Controller) {
+    for register in 0..=4 {
+        check_reason(before, false, |c| c.read(register));
+        for value in 0..=255 {
+            let reset = before.armed && (register, value) == (2, 0x5A);
+            check_reason(before, reset, |c| c.write(register, value));
+        }
+    }
+    for event in 0..=15 {
+        for argument in 0..=255 {
+            let reset = (event, argument) == (14, 0);
+            check_reason(before, reset, |c| c.event(event, argument));
+        }
+    }
+}
+
+#[test]
+fn reason_after_every_call() {
+    for mut c in sound_records() {
+        for reason in [
+            Reason::NoneYet,
+            Reason::CountReached,
+            Reason::Nack,
+            Reason::Outside,
+            Reason::ArbitrationLost,
+            Reason::Fault,
+            Reason::Reset,
+        ] {
+            c.reason = reason;
+            check_reason_after_every_call(&c);
         }
     }
 }
