@@ -4,7 +4,7 @@ use mathlib.Core.List.{List, [], _∷_}
 use mathlib.Core.Path.{_≡_, refl, sym, subst, _∙_}
 use Prim.Native.Nat.{ℕ}
 use borrow.Author.Tests.{eqb-true}
-use lib.Dec.{T, eqb}
+use lib.Dec.{T, eqb, ltb}
 use Rattle.address.specs.declared.matching.Match.the-variants.{Own, General, Nothing}
 use Rattle.address.specs.declared.matching.Match.{Match}
 use Rattle.address.specs.declared.number.Direction.the-variants.{Write, Read}
@@ -43,16 +43,15 @@ same-reason c = refl
 record Follows (c : Controller) (pin : Bool) (o : Outcome) : Type 0 where
   follows :
       o .next .reason ≡
-      (if eqb (o .refused) 0 then
-      (if pin then Reset
+      (if ltb 0 (o .refused) then c .reason
+      else if pin then Reset
       else if interrupts (o .next) then reasonOf (statusOf (o .next .turn))
-      else c .reason)
       else c .reason)
 
 -- the ends of the rules
-refused : (c : Controller) (pin : Bool) (n : ℕ) → eqb n 0 ≡ false → Follows c pin (refuses c n)
+refused : (c : Controller) (pin : Bool) (n : ℕ) → ltb 0 n ≡ true → Follows c pin (refuses c n)
 unfolding refuses
-refused c pin n e = record { follows = sym (if-false _ _ _ e) }
+refused c pin n e = record { follows = sym (if-true _ _ _ e) }
 
 -- the reason is kept, and SI is 0 after it
 keeping : (c d : Controller) (v : ℕ) → d .reason ≡ c .reason → among (kind (d .turn)) (host ∷ []) ≡ false → Follows c false (accepts d v)

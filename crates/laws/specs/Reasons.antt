@@ -2,7 +2,7 @@
 -- sound or not. The proof is in proofs/Reasons.antt.
 use mathlib.Core.Path.{_≡_}
 use Prim.Native.Nat.{ℕ}
-use lib.Dec.{eqb}
+use lib.Dec.{eqb, ltb}
 use Rattle.control.specs.Reason.{reasonOf}
 use Rattle.control.specs.Turn.{statusOf}
 use Rattle.control.specs.declared.reason.Reason.the-variants.{Reset}
@@ -19,10 +19,9 @@ use Rattle.notation.specs.Choice.{if_then_else_, _and_}
 -- status's; every other keeps it.
 abbrev pub reasonAfterEvent : Controller → ℕ → Outcome → Reason
 reasonAfterEvent c number o =
-    if eqb (o .refused) 0 then
-    (if eqb number 14 then Reset
+    if ltb 0 (o .refused) then c .reason
+    else if eqb number 14 then Reset
     else if interrupts (o .next) then reasonOf (statusOf (o .next .turn))
-    else c .reason)
     else c .reason
 
 -- After a write. The accepted 5Ah that completes the software reset sets `Reset`. Every other keeps it: an I2CCON write too, also at 38h and with ENSIO 0.
