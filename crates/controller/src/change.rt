@@ -107,24 +107,15 @@ impl Controller {
     }
 
     // I2CCON was written.
-    pub fn set(self, s: Setting) -> Controller
+    pub fn set(mut self, s: Setting) -> Controller
         ensures { λ r. ⌜ r ≡ withArmed (setTo self s) false ⌝ }
     {
-        let buffer = self.buffer;
-        let registers = self.registers;
         let control = s.control;
         let turn = s.turn;
-        let reason = self.reason;
-        Controller {
-            buffer,
-            hand: 0,
-            moved: 0,
-            pointer: self.pointer,
-            armed: false,
-            registers,
-            control,
-            turn,
-            reason,
-        }
+        self.hand = 0;
+        self.moved = 0;
+        self.armed = false;
+        self.control = control;
+        self.turned(turn)
     }
 }

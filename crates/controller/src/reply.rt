@@ -25,9 +25,10 @@ impl Controller {
     pub(crate) fn refused(self, why: Refusal) -> Reply
         ensures { λ r. ⌜ outcomeOf r ≡ refuses self (refusalNumber why) ⌝ }
     {
+        let answer = Answer::Refused(why);
         Reply {
             controller: self,
-            answer: Answer::Refused(why),
+            answer,
         }
     }
 
