@@ -10,7 +10,6 @@ use Rattle.control.specs.Flags.{flagsOf}
 use Rattle.control.specs.Turn.{off, host, wireTurns, dataTurns, kind, statusOf, edgeOf, at38h}
 use Rattle.control.specs.Writing.{endOr, afterEdge, respondsAt, response}
 use Rattle.control.specs.declared.flags.Control.{Control}
-use Rattle.control.specs.declared.reason.Reason.the-variants.{Reset}
 use Rattle.control.specs.declared.reason.Reason.{Reason}
 use Rattle.control.specs.declared.turn.Edge.the-variants.{Stop, Start}
 use Rattle.control.specs.declared.turn.Edge.{Edge}
@@ -50,7 +49,7 @@ written c s = accepted _ 0 (armed-sound c false s)
 write-preset : (c : Controller) (value : ℕ) → sound c ≡ true → Kept (writePreset c value)
 unfolding writePreset
 write-preset c value s =
-    either (completesReset c value) _ _ (accepted _ 0 (reset-sound (c .buffer) Reset)) (accepted _ 0 (armed-sound c _ s))
+    either (completesReset c value) _ _ (accepted _ 0 (reset-sound (c .buffer) _)) (accepted _ 0 (armed-sound c _ s))
 
 write-pointer : (c : Controller) (value : ℕ) → sound c ≡ true → Kept (writePointer c value)
 unfolding writePointer moveSound

@@ -1,20 +1,25 @@
--- The reason after any event, write and read. Assumes nothing.
-use mathlib.Core.Bool.{Bool, true, false}
+-- The reason after any event, write and read, and that whenever SI is 1 it is that of the status. Assumes nothing.
+use mathlib.Core.Bool.{Bool, true, false, true≢false}
 use mathlib.Core.List.{List, [], _∷_}
-use mathlib.Core.Path.{_≡_, refl, sym, subst, _∙_}
+use mathlib.Core.Path.{_≡_, refl, sym, ap, subst, _∙_}
 use Prim.Native.Nat.{ℕ}
 use borrow.Author.Tests.{eqb-true}
 use lib.Dec.{T, eqb, ltb}
+use lib.ListN.{replicate}
 use Rattle.address.specs.declared.matching.Match.the-variants.{Own, General, Nothing}
 use Rattle.address.specs.declared.matching.Match.{Match}
 use Rattle.address.specs.declared.number.Direction.the-variants.{Write, Read}
 use Rattle.control.specs.Reason.{reasonOf}
-use Rattle.control.specs.Turn.{host, slaveReceive, kind, statusOf}
+use Rattle.control.proofs.Turning.{at38h-host}
+use Rattle.control.specs.Turn.{host, slaveReceive, kind, statusOf, edgeOf, at38h}
+use Rattle.control.specs.Writing.{respondsAt, response}
 use Rattle.control.specs.declared.flags.Control.{Control}
-use Rattle.control.specs.declared.reason.Reason.the-variants.{Reset}
+use Rattle.control.specs.declared.reason.Reason.the-variants.{NoneYet, Reset}
+use Rattle.control.specs.declared.reason.Reason.{Reason}
 use Rattle.control.specs.declared.turn.Called.the-variants as called
 use Rattle.control.specs.declared.turn.Called.{Called}
 use Rattle.control.specs.declared.turn.Edge.{Edge}
+use Rattle.control.specs.declared.turn.Turn.the-variants.{Off, Host}
 use Rattle.control.specs.declared.turn.Turn.{Turn}
 use Rattle.control.specs.declared.writing.Response.the-variants.{Next, Unlisted}
 use Rattle.control.specs.declared.writing.Response.{Response}
@@ -33,11 +38,27 @@ use Rattle.controller.specs.declared.record.Controller.{Controller}
 use Rattle.notation.proofs.Among.{has, every, same, apart, key-is}
 use Rattle.notation.proofs.Cases.{if-true, if-false, and-true, and-no-left, and-no-right, split}
 use Rattle.notation.specs.Choice.{if_then_else_, _and_, among}
-use Rattle.laws.proofs.Kept.{Quiet, free-quiet, busy-quiet, listen-quiet}
-use Rattle.laws.specs.Reasons.{ReasonFollows, ReasonsFollow}
+use Rattle.laws.proofs.Kept.{Quiet, free-quiet, busy-quiet, listen-quiet, off-quiet}
+use Rattle.laws.proofs.KeptAccesses.{WriteLeads, response-clears}
+use Rattle.laws.specs.Reasons.{ReasonsFollow, Agrees, ReasonAgrees}
 
 same-reason : (c : Controller) → c .reason ≡ c .reason
 same-reason c = refl
+
+same-turn : (c : Controller) → c .turn ≡ c .turn
+same-turn c = refl
+
+-- SI is 0, or turn and reason are as they were
+silent : (t : Turn) (r : Reason) → among (kind t) (host ∷ []) ≡ false → among (kind t) (host ∷ []) ≡ true → r ≡ reasonOf (statusOf t)
+silent t r q i = absurd (true≢false (sym i ∙ q))
+
+as-before : (c d : Controller) → d .turn ≡ c .turn → d .reason ≡ c .reason → Agrees c → Agrees d
+as-before c d t r h i =
+    r ∙ h (ap (λ (u : Turn). among (kind u) (host ∷ [])) (sym t) ∙ i) ∙ ap (λ (u : Turn). reasonOf (statusOf u)) (sym t)
+
+reset-agrees : (buffer : List ℕ) (reason : Reason) → Agrees (resetWith buffer reason)
+unfolding resetWith
+reset-agrees buffer reason = silent Off reason (off-quiet .0)
 
 -- What an event makes of the reason; `pin` says whether it is the reset pin.
 record Follows (c : Controller) (pin : Bool) (o : Outcome) : Type 0 where
@@ -47,16 +68,17 @@ record Follows (c : Controller) (pin : Bool) (o : Outcome) : Type 0 where
       else if pin then Reset
       else if interrupts (o .next) then reasonOf (statusOf (o .next .turn))
       else c .reason)
+  agrees : Agrees c → Agrees (o .next)
 
 -- the ends of the rules
 refused : (c : Controller) (pin : Bool) (n : ℕ) → ltb 0 n ≡ true → Follows c pin (refuses c n)
 unfolding refuses
-refused c pin n e = record { follows = sym (if-true _ _ _ e) }
+refused c pin n e = record { follows = sym (if-true _ _ _ e); agrees = λ h. h }
 
 -- the reason is kept, and SI is 0 after it
 keeping : (c d : Controller) (v : ℕ) → d .reason ≡ c .reason → among (kind (d .turn)) (host ∷ []) ≡ false → Follows c false (accepts d v)
 unfolding accepts if_then_else_
-keeping c d v e t = record { follows = e ∙ sym (if-false _ _ _ t) }
+keeping c d v e t = record { follows = e ∙ sym (if-false _ _ _ t); agrees = λ _. silent (d .turn) (d .reason) t }
 
 waiting : (c d : Controller) (t : Turn) (v : ℕ) → d .reason ≡ c .reason → Quiet t → Follows c false (waitsFor d t v)
 unfolding waitsFor
@@ -64,20 +86,20 @@ waiting c d t v e q = keeping c (withTurn d t) v e (q .0)
 
 interrupted : (c d : Controller) (s : ℕ) (e : Edge) (v : ℕ) → Follows c false (interruptsAt d s e v)
 unfolding interruptsAt accepts kind statusOf among if_then_else_
-interrupted c d s e v = record { follows = refl }
+interrupted c d s e v = record { follows = refl; agrees = λ _ _. refl }
 
 status-changed : (c d : Controller) (s : ℕ) → Follows c false (changesStatus d s)
 unfolding changesStatus accepts kind statusOf among if_then_else_
-status-changed c d s = record { follows = refl }
+status-changed c d s = record { follows = refl; agrees = λ _ _. refl }
 
 pin-pulled : (c : Controller) (pin : Bool) → pin ≡ true → Follows c pin (accepts (reset c) 0)
 unfolding accepts resetWith if_then_else_
-pin-pulled c pin e = record { follows = sym (if-true _ _ _ e) }
+pin-pulled c pin e = record { follows = sym (if-true _ _ _ e); agrees = λ _. reset-agrees (c .buffer) Reset }
 
 no-pin : (c : Controller) (pin : Bool) (o : Outcome) → pin ≡ false → Follows c false o → Follows c pin o
 no-pin c pin o e f = subst (λ (b : Bool). Follows c b o) (sym e) f
 
-choose : (c : Controller) (pin : Bool) (b : Bool) (x y : Outcome) → (b ≡ true → Follows c pin x) → (b ≡ false → Follows c pin y) →
+choose : (c : Controller) (pin b : Bool) (x y : Outcome) → (b ≡ true → Follows c pin x) → (b ≡ false → Follows c pin y) →
     Follows c pin (if b then x else y)
 choose c pin b x y p q = split (Follows c pin) b x y p q
 
@@ -121,22 +143,28 @@ event-follows c number argument = search (refused, pin-pulled, no-pin, event-sou
 -- What an access makes of the reason; `resets` says whether it is the write that completes the software reset.
 record Access (c : Controller) (resets : Bool) (o : Outcome) : Type 0 where
   leaves : o .next .reason ≡ (if eqb (o .refused) 0 and resets then Reset else c .reason)
+  agrees : Agrees c → Agrees (o .next)
 
 access-refused : (c : Controller) (resets : Bool) (n : ℕ) → eqb n 0 ≡ false → Access c resets (refuses c n)
 unfolding refuses
-access-refused c resets n e = record { leaves = sym (if-false _ _ _ (and-no-left _ _ e)) }
+access-refused c resets n e = record { leaves = sym (if-false _ _ _ (and-no-left _ _ e)); agrees = λ h. h }
 
-access-keeps : (c d : Controller) (resets : Bool) (v : ℕ) → d .reason ≡ c .reason → resets ≡ false → Access c resets (accepts d v)
+access-keeps : (c d : Controller) (resets : Bool) (v : ℕ) → (Agrees c → Agrees d) → d .reason ≡ c .reason → resets ≡ false →
+    Access c resets (accepts d v)
 unfolding accepts
-access-keeps c d resets v e f = record { leaves = e ∙ sym (if-false _ _ _ (and-no-right _ _ f)) }
+access-keeps c d resets v a e f = record { leaves = e ∙ sym (if-false _ _ _ (and-no-right _ _ f)); agrees = a }
 
-written : (c d : Controller) (resets : Bool) → d .reason ≡ c .reason → resets ≡ false → Access c resets (wrote d)
+accessed : (c d : Controller) (resets : Bool) (v : ℕ) → d .turn ≡ c .turn → d .reason ≡ c .reason → resets ≡ false →
+    Access c resets (accepts d v)
+accessed c d resets v t e f = access-keeps c d resets v (as-before c d t e) e f
+
+written : (c d : Controller) (resets : Bool) → d .turn ≡ c .turn → d .reason ≡ c .reason → resets ≡ false → Access c resets (wrote d)
 unfolding wrote
-written c d resets e f = access-keeps c _ resets 0 e f
+written c d resets t e f = accessed c _ resets 0 t e f
 
 completed : (c : Controller) (resets : Bool) → resets ≡ true → Access c resets (accepts (reset c) 0)
 unfolding accepts resetWith
-completed c resets e = record { leaves = sym (if-true _ _ _ (and-true _ _ refl e)) }
+completed c resets e = record { leaves = sym (if-true _ _ _ (and-true _ _ refl e)); agrees = λ _. reset-agrees (c .buffer) Reset }
 
 choose-access : (c : Controller) (resets b : Bool) (x y : Outcome) → (b ≡ true → Access c resets x) → (b ≡ false → Access c resets y) →
     Access c resets (if b then x else y)
@@ -146,18 +174,44 @@ choose-access c resets b x y p q = split (Access c resets) b x y p q
 not-two : (register k : ℕ) → eqb register k ≡ true → eqb k 2 ≡ false → eqb register 2 ≡ false
 not-two register k e f = key-is k register (eqb-true register k e) false 2 f
 
-ruleset accesses =
-    (access-refused, access-keeps, written, completed, choose-access, same-reason, not-two, and-true, and-no-left, and-no-right, refl)
+-- a write of I2CCON that leads elsewhere than to Host, or leaves the turn
+leads : (c : Controller) (k : Control) (t : Turn) (resets : Bool) → among (kind t) (host ∷ []) ≡ false → resets ≡ false →
+    Access c resets (controlled c k t)
+unfolding controlled wrote
+leads c k t resets q f = access-keeps c _ resets 0 (λ _. silent t (c .reason) q) refl f
 
-enabling : (c : Controller) (k : Control) (r : Response) (resets : Bool) → resets ≡ false → Access c resets (enabled c k r)
-unfolding enabled controlled
-enabling c k Unlisted resets f = search accesses
-enabling c k (Next t) resets f = search accesses
+stays : (c : Controller) (k : Control) (t : Turn) (resets : Bool) → t ≡ c .turn → resets ≡ false → Access c resets (controlled c k t)
+unfolding controlled
+stays c k t resets e f = written c _ resets e refl f
+
+ruleset accesses =
+    (access-refused, accessed, written, completed, choose-access, leads, same-turn, same-reason, not-two, and-true, and-no-left, and-no-right, refl)
+
+-- at 38h it leaves the turn
+next-at-38h : (e : Edge) (k : Control) (t : Turn) → Next t ≡ response (Host 0x38 e) k → t ≡ Host 0x38 e
+unfolding response respondsAt kind statusOf edgeOf among if_then_else_
+next-at-38h e k t p = ap leadsTo p
+  where
+    leadsTo : Response → Turn
+    leadsTo (Next u) = u
+    leadsTo Unlisted = t
+
+enabling : (c : Controller) (k : Control) (r : Response) (resets : Bool) → response (c .turn) k ≡ r → resets ≡ false →
+    Access c resets (enabled c k r)
+unfolding enabled
+enabling c k Unlisted resets e f = search accesses
+enabling c k (Next t) resets e f = choose-access c resets _ _ _ (λ _. access-refused c resets 6 refl) (λ _. at-38h (at38h (c .turn)) refl)
+  where
+    at-38h : (b : Bool) → at38h (c .turn) ≡ b → Access c resets (controlled c k t)
+    at-38h true a =
+        let lost = at38h-host (c .turn) a in
+        stays c k t resets (next-at-38h _ k t (sym e ∙ ap (λ (u : Turn). response u k) lost) ∙ sym lost) f
+    at-38h false a = leads c k t resets (subst (WriteLeads _) e (response-clears (c .turn) k) .clears a) f
 
 write-follows : (c : Controller) (register value : ℕ) →
     Access c (eqb register 2 and eqb (c .pointer) 5 and completesReset c value) (writeOf c register value)
-unfolding writeOf writeSound writePointer writeData writeAtPointer writePreset writeControl writeFlags controlled
-write-follows c register value = search (enabling, accesses) depth 20
+unfolding writeOf writeSound writePointer writeData writeAtPointer writePreset writeControl writeFlags
+write-follows c register value = search (enabling, off-quiet .0, accesses) depth 20
 
 read-follows : (c : Controller) (register : ℕ) → Access c false (readOf c register)
 unfolding readOf readSound readData
@@ -169,4 +223,12 @@ reasons-follow c = record {
   event = λ number argument. event-follows c number argument .follows;
   write = λ register value. write-follows c register value .leaves;
   read = λ register. read-follows c register .leaves ∙ if-false _ _ _ (and-no-right _ _ refl);
+}
+
+pub reason-agrees : ReasonAgrees
+reason-agrees = record {
+  fresh-agrees = reset-agrees (replicate 68 0) NoneYet;
+  event = λ c number argument. event-follows c number argument .agrees;
+  write = λ c register value. write-follows c register value .agrees;
+  read = λ c register. read-follows c register .agrees;
 }

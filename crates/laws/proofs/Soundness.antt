@@ -4,7 +4,6 @@ use mathlib.Core.Bool.{true}
 use mathlib.Core.Path.{_≡_}
 use Prim.Native.Nat.{ℕ}
 use lib.ListN.{replicate}
-use Rattle.control.specs.declared.reason.Reason.the-variants.{NoneYet, Reset}
 use Rattle.controller.specs.Access.{readOf, writeOf}
 use Rattle.controller.specs.Event.{badArgument, eventOf}
 use Rattle.controller.specs.Record.{sound}
@@ -30,7 +29,7 @@ event-next c number argument s = search (refused, accepted, reset-sound, event-k
 
 -- The laws.
 pub fresh-is-sound : sound fresh ≡ true
-fresh-is-sound = reset-sound (replicate 68 0) NoneYet
+fresh-is-sound = reset-sound (replicate 68 0) _
 
 pub read-stays-sound : (c : Controller) (register : ℕ) → sound c ≡ true → sound ((readOf c register) .next) ≡ true
 read-stays-sound c register s = read-next c register s .next-sound
@@ -44,4 +43,4 @@ event-stays-sound c number argument s = event-next c number argument s .next-sou
 -- event 14, of any record whatever
 pub reset-pin-makes-sound : (c : Controller) → sound ((eventOf c 14 0) .next) ≡ true
 unfolding eventOf badArgument if_then_else_ _or_ accepts
-reset-pin-makes-sound c = reset-sound (c .buffer) Reset
+reset-pin-makes-sound c = reset-sound (c .buffer) _

@@ -1,5 +1,6 @@
 -- Document 02, request 8: "It is set with each new status but F8h, and by a reset, and otherwise kept." What is claimed of the reason, of any record,
--- sound or not. The proof is in proofs/Reasons.antt.
+-- sound or not. The proofs are in proofs/Reasons.antt.
+use mathlib.Core.Bool.{true}
 use mathlib.Core.Path.{_≡_}
 use Prim.Native.Nat.{ℕ}
 use lib.Dec.{eqb, ltb}
@@ -11,7 +12,7 @@ use Rattle.controller.specs.Access.{readOf, writeOf}
 use Rattle.controller.specs.Event.{eventOf}
 use Rattle.controller.specs.Record.{interrupts}
 use Rattle.controller.specs.Reply.{Outcome}
-use Rattle.controller.specs.Reset.{completesReset}
+use Rattle.controller.specs.Reset.{fresh, completesReset}
 use Rattle.controller.specs.declared.record.Controller.{Controller}
 use Rattle.notation.specs.Choice.{if_then_else_, _and_}
 
@@ -38,3 +39,14 @@ pub record ReasonFollows (c : Controller) : Type 0 where
 -- any record
 abbrev pub ReasonsFollow : Type 0
 ReasonsFollow = (c : Controller) → ReasonFollows c
+
+-- Whenever SI is 1, the reason is that of the status that I2CSTA shows.
+abbrev pub Agrees : Controller → Type 0
+Agrees c = interrupts c ≡ true → c .reason ≡ reasonOf (statusOf (c .turn))
+
+-- So it is in the fresh controller, and each event, write and read, accepted or refused, leaves it so.
+pub record ReasonAgrees : Type 0 where
+  pub fresh-agrees : Agrees fresh
+  pub event : (c : Controller) (number argument : ℕ) → Agrees c → Agrees (eventOf c number argument .next)
+  pub write : (c : Controller) (register value : ℕ) → Agrees c → Agrees (writeOf c register value .next)
+  pub read : (c : Controller) (register : ℕ) → Agrees c → Agrees (readOf c register .next)
