@@ -22,6 +22,17 @@ pub enum Reason {
 }
 
 impl Reason {
+    /// All seven, by their numbers from 0.
+    pub const ALL: [Self; 7] = [
+        Reason::NoneYet,
+        Reason::CountReached,
+        Reason::Nack,
+        Reason::Outside,
+        Reason::ArbitrationLost,
+        Reason::Fault,
+        Reason::Reset,
+    ];
+
     /// The number of the reason, 0 to 6.
     #[inline]
     pub const fn number(self) -> u8 {

@@ -384,15 +384,7 @@ fn check_reason_after_every_call(before: &Controller) {
 #[test]
 fn reason_after_every_call() {
     for mut c in sound_records() {
-        for reason in [
-            Reason::NoneYet,
-            Reason::CountReached,
-            Reason::Nack,
-            Reason::Outside,
-            Reason::ArbitrationLost,
-            Reason::Fault,
-            Reason::Reset,
-        ] {
+        for reason in Reason::ALL {
             c.reason = reason;
             check_reason_after_every_call(&c);
         }

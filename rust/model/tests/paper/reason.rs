@@ -27,19 +27,8 @@ fn listed(status: u8) -> Reason {
 
 #[test]
 fn numbers_of_reasons() {
-    for (number, reason) in [
-        Reason::NoneYet,
-        Reason::CountReached,
-        Reason::Nack,
-        Reason::Outside,
-        Reason::ArbitrationLost,
-        Reason::Fault,
-        Reason::Reset,
-    ]
-    .into_iter()
-    .enumerate()
-    {
-        assert_eq!(usize::from(reason.number()), number);
+    for (number, reason) in (0..).zip(Reason::ALL) {
+        assert_eq!(reason.number(), number);
     }
 }
 
