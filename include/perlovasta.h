@@ -24,10 +24,12 @@
 #define PERLOVASTA_GROUP 3u   /* bytes of a trace for each access or event */
 #define PERLOVASTA_ENTRY 8u   /* bytes of a log for each access or event */
 
-/* Of an entry, the first of its eight bytes: why the last move ended, 0 to 6,
- * and the pointer. */
+/* entry points to the first of the eight bytes for a group, which for group k,
+ * from 0 on, is log + k * PERLOVASTA_ENTRY. Why the last move ended, 0 to 6;
+ * the pointer, 0 to 7; 1 if the software reset is armed, else 0. */
 #define PERLOVASTA_REASON(entry) (((entry)[6] >> 4) & 7)
 #define PERLOVASTA_POINTER(entry) ((entry)[6] & 15)
+#define PERLOVASTA_ARMED(entry) ((entry)[6] >> 7)
 
 #ifdef __cplusplus
 extern "C" {
@@ -102,14 +104,19 @@ bool perlovasta_job(uint8_t kind, uint8_t address, uint8_t n,
  *             24 is SlaveReceive by General Call
  *
  * Why the last move ended: set by each new status but F8h and by a reset, and
- * kept by everything else. PERLOVASTA_REASON takes it from an entry.
- *   0  none yet: fresh, or at 08h, 10h, 60h, A8h or D0h
- *   1  count reached: 18h, 28h, 40h, 50h, 80h, B8h, C8h, E0h
- *   2  NACK, also on the last byte: 20h, 30h, 48h, 58h, 88h, C0h, E8h
- *   3  another's START or STOP: A0h
+ * kept by everything else, so while a data move goes on it is that of the
+ * status before. PERLOVASTA_REASON takes it from an entry. It does not tell
+ * whether a read is done: one that is ends with 58h, one whose address was not
+ * acknowledged with 48h, and both are 2.
+ *   0  none yet: fresh, or set by 08h, 10h, 60h, A8h, D0h
+ *   1  count reached: 28h, 50h, 80h, B8h, C8h, E0h, and 18h and 40h, where no
+ *      data byte has moved yet
+ *   2  NACK, also on the last byte: 20h, 30h, 48h, C0h by the other side; 58h,
+ *      88h, E8h by the controller
+ *   3  another's START or STOP ended a slave reception: A0h
  *   4  arbitration lost: 38h, 68h, B0h, D8h
  *   5  fault: 00h, 70h, 78h
- *   6  reset
+ *   6  reset, by the pin or by software
  *
  * Returns true if the trace was run. It returns false, and nothing is
  * written, if the trace is not whole groups, has a group of another kind, or

@@ -54,8 +54,8 @@ def not_ready(t, word):
 
 
 def jobs_stopped(t):
-    t.note("own STOP keeps it: of a write done 28h's, of a read done 58h's, "
-           "where the last byte is NACKed")
+    t.note("own STOP keeps it: after a write that is done that of 28h, after a "
+           "read that is done that of 58h, where the last byte is NACKed")
     for want, word, kind, script in (
             (0, "count", 0, write_script(2)),
             (0, "nack", 1, read_script([0x5C, 0x5D])),

@@ -171,7 +171,7 @@ def lead(t, word, status, before, value, events):
 
 def make_reason_control():
     t = ReasonTrace("reason-control", "Kept by I2CCON writes at each status, "
-                    "taken or refused, and by what is refused there")
+                    "accepted or refused, and by what is refused there")
     words = {way[0]: word for word in WAYS for way in WAYS[word]}
     for name in HOSTS:
         t.note(f"at {at(name)}")
@@ -209,7 +209,7 @@ def make_reason_kept():
     t = ReasonTrace("reason-kept", "Kept in Free, Listen, Busy and Off, until "
                     "the next status sets it")
     for word in FREE:
-        t.note(f"{word}: accesses, taken and refused")
+        t.note(f"{word}: accesses, accepted and refused")
         to_free(t, word)
         kept_accesses(t)
         check_reason(t, word)

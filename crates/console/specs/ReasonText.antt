@@ -9,7 +9,7 @@ use Rattle.control.specs.declared.reason.Reason.{Reason}
 abbrev pub beforeReason : List ℕ
 beforeReason = 32 ∷ 114 ∷ 101 ∷ 97 ∷ 115 ∷ 111 ∷ 110 ∷ 32 ∷ []
 
--- "none", "count", "nack", "outside", "arbitration", "fault", "reset"
+-- "none", "count", "nack", "outside", "arbitration", "fault", "reset", in this order
 unfoldable pub reasonWord : Reason → List ℕ
 reasonWord NoneYet = 110 ∷ 111 ∷ 110 ∷ 101 ∷ []
 reasonWord CountReached = 99 ∷ 111 ∷ 117 ∷ 110 ∷ 116 ∷ []

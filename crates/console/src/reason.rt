@@ -5,7 +5,7 @@ ghost use Rattle.console.specs.ReasonText.{reasonWord, reasonText};
 ghost use Rattle.text.specs.Text.{Holds};
 
 // The reason's word.
-fn put_name(text: &mut [u8], at: usize, reason: Reason) -> usize
+fn put_reason_word(text: &mut [u8], at: usize, reason: Reason) -> usize
     ensures { λ r. ⌜ Holds at (reasonWord reason) (now (text .entry)) (now (text .exit)) r ⌝ }
 {
     match reason {
@@ -24,5 +24,5 @@ pub fn put_reason(text: &mut [u8], at: usize, reason: Reason) -> usize
     ensures { λ r. ⌜ Holds at (reasonText reason) (now (text .entry)) (now (text .exit)) r ⌝ }
 {
     let next = put_word(text, at, b" reason ");
-    put_name(text, next, reason)
+    put_reason_word(text, next, reason)
 }

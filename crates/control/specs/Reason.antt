@@ -1,4 +1,4 @@
--- Document 02, request 8, "Keep why a move ended": the reason that a status sets. (That a reset sets one is in Reset, crates/controller.)
+-- Document 02, request 8, "Keep why a move ended": the reason that a status sets. (That a reset sets one is said by `Reset.reset`, crates/controller.)
 use mathlib.Core.List.{List, [], _∷_}
 use Prim.Native.Nat.{ℕ}
 use Rattle.control.specs.Turn.{faults}
@@ -22,7 +22,7 @@ endedOutside = 0xA0 ∷ []
 abbrev pub arbitrationLost : List ℕ
 arbitrationLost = 0x38 ∷ 0x68 ∷ 0xB0 ∷ 0xD8 ∷ []
 
--- the reason that a status sets. "Fault: 00h, 70h, 78h." (`faults`); "All others .. none yet"
+-- the reason that a status sets. "Fault: 00h, 70h, 78h." (`faults`, in Turn.antt); "All others .. none yet". (No event gives F8h.)
 unfoldable pub reasonOf : ℕ → Reason
 reasonOf status =
     if among status countReached then CountReached
@@ -32,7 +32,7 @@ reasonOf status =
     else if among status faults then Fault
     else NoneYet
 
--- the number that programs and library show
+-- the number that the library's log shows
 abbrev pub reasonNumber : Reason → ℕ
 reasonNumber NoneYet = 0
 reasonNumber CountReached = 1

@@ -2,10 +2,10 @@
 ghost use mathlib.Core.Path.{_≡_};
 ghost use Rattle.control.specs.Reason.{reasonOf, reasonNumber};
 
-// The reason of the last status, or a reset.
+// That of the last status but F8h, or of a reset after it.
 pub enum Reason {
     NoneYet,
-    // The last byte of the move was acknowledged.
+    // The address byte, or the last data byte of a move, was acknowledged.
     CountReached,
     // A byte was not acknowledged, also the last.
     Nack,
@@ -32,7 +32,7 @@ impl Reason {
         }
     }
 
-    // The number for programs and the library.
+    // The number in the library's log.
     pub fn number(self) -> u8
         ensures { λ r. ⌜ r ≡ reasonNumber self ⌝ }
     {

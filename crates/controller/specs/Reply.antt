@@ -31,7 +31,7 @@ accepts c value = record { next = c; refused = 0; value = value }
 unfoldable pub waitsFor : Controller → Turn → ℕ → Outcome
 waitsFor c turn value = accepts (withTurn c turn) value
 
--- "An event that gives a status leads to Host"; the reason "is set with each new status" (document 02, request 8)
+-- "An event that gives a status leads to Host"; the reason "is set with each new status but F8h" (document 02, request 8)
 abbrev pub withStatus : Controller → ℕ → Edge → Controller
 withStatus c status edge = withReason (withTurn c (Host status edge)) (reasonOf status)
 

@@ -17,7 +17,7 @@ ghost use Rattle.controller.specs.Transfer.{counted};
 
 impl Controller {
     // Another turn and reason.
-    fn with_turn(self, turn: Turn, reason: Reason) -> Controller
+    fn with_turn_and_reason(self, turn: Turn, reason: Reason) -> Controller
         ensures { λ r. ⌜ r ≡ withReason (withTurn self turn) reason ⌝ }
     {
         let buffer = self.buffer;
@@ -41,7 +41,7 @@ impl Controller {
         ensures { λ r. ⌜ r ≡ withTurn self turn ⌝ }
     {
         let reason = self.reason;
-        self.with_turn(turn, reason)
+        self.with_turn_and_reason(turn, reason)
     }
 
     // Own STOP.
@@ -56,7 +56,7 @@ impl Controller {
     pub fn with_status(self, status: u8, edge: Edge) -> Controller
         ensures { λ r. ⌜ r ≡ withStatus self status edge ⌝ }
     {
-        self.with_turn(Turn::Host(status, edge), Reason::of_status(status))
+        self.with_turn_and_reason(Turn::Host(status, edge), Reason::of_status(status))
     }
 
     // A status, and SI becomes 1: the hand place goes back to 0.

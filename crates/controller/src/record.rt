@@ -33,7 +33,7 @@ pub struct Controller {
     pub registers: Registers,
     pub control: Control,
     pub turn: Turn,
-    // Why the last move ended: set with each new status and by a reset.
+    // Why a move ended: set with each new status but F8h, and by a reset.
     pub reason: Reason,
 }
 

@@ -39,7 +39,7 @@ fn reset_with(buffer: [u8; 68], reason: Reason) -> Controller
 }
 
 impl Controller {
-    // A controller after reset with all 68 places at zero.
+    // As after reset, with all 68 places at zero and no reason yet.
     pub fn fresh() -> Controller
         ensures { λ r. ⌜ r ≡ fresh ⌝ }
     {

@@ -40,7 +40,7 @@ use Rattle.notation.proofs.Cases.{if-true, if-false, and-true, and-no-left, and
 use Rattle.notation.specs.Choice.{if_then_else_, _and_, among}
 use Rattle.laws.proofs.Kept.{Quiet, free-quiet, busy-quiet, listen-quiet, off-quiet}
 use Rattle.laws.proofs.KeptAccesses.{WriteLeads, response-clears}
-use Rattle.laws.specs.Reasons.{ReasonsFollow, Agrees, ReasonAgrees}
+use Rattle.laws.specs.Reasons.{ReasonsFollow, ReasonOfStatus, ReasonAgrees}
 
 same-reason : (c : Controller) → c .reason ≡ c .reason
 same-reason c = refl
@@ -52,11 +52,11 @@ same-turn c = refl
 silent : (t : Turn) (r : Reason) → among (kind t) (host ∷ []) ≡ false → among (kind t) (host ∷ []) ≡ true → r ≡ reasonOf (statusOf t)
 silent t r q i = absurd (true≢false (sym i ∙ q))
 
-as-before : (c d : Controller) → d .turn ≡ c .turn → d .reason ≡ c .reason → Agrees c → Agrees d
+as-before : (c d : Controller) → d .turn ≡ c .turn → d .reason ≡ c .reason → ReasonOfStatus c → ReasonOfStatus d
 as-before c d t r h i =
     r ∙ h (ap (λ (u : Turn). among (kind u) (host ∷ [])) (sym t) ∙ i) ∙ ap (λ (u : Turn). reasonOf (statusOf u)) (sym t)
 
-reset-agrees : (buffer : List ℕ) (reason : Reason) → Agrees (resetWith buffer reason)
+reset-agrees : (buffer : List ℕ) (reason : Reason) → ReasonOfStatus (resetWith buffer reason)
 unfolding resetWith
 reset-agrees buffer reason = silent Off reason (off-quiet .0)
 
@@ -68,7 +68,7 @@ record Follows (c : Controller) (pin : Bool) (o : Outcome) : Type 0 where
       else if pin then Reset
       else if interrupts (o .next) then reasonOf (statusOf (o .next .turn))
       else c .reason)
-  agrees : Agrees c → Agrees (o .next)
+  agrees : ReasonOfStatus c → ReasonOfStatus (o .next)
 
 -- the ends of the rules
 refused : (c : Controller) (pin : Bool) (n : ℕ) → ltb 0 n ≡ true → Follows c pin (refuses c n)
@@ -143,13 +143,13 @@ event-follows c number argument = search (refused, pin-pulled, no-pin, event-sou
 -- What an access makes of the reason; `resets` says whether it is the write that completes the software reset.
 record Access (c : Controller) (resets : Bool) (o : Outcome) : Type 0 where
   leaves : o .next .reason ≡ (if eqb (o .refused) 0 and resets then Reset else c .reason)
-  agrees : Agrees c → Agrees (o .next)
+  agrees : ReasonOfStatus c → ReasonOfStatus (o .next)
 
 access-refused : (c : Controller) (resets : Bool) (n : ℕ) → eqb n 0 ≡ false → Access c resets (refuses c n)
 unfolding refuses
 access-refused c resets n e = record { leaves = sym (if-false _ _ _ (and-no-left _ _ e)); agrees = λ h. h }
 
-access-keeps : (c d : Controller) (resets : Bool) (v : ℕ) → (Agrees c → Agrees d) → d .reason ≡ c .reason → resets ≡ false →
+access-keeps : (c d : Controller) (resets : Bool) (v : ℕ) → (ReasonOfStatus c → ReasonOfStatus d) → d .reason ≡ c .reason → resets ≡ false →
     Access c resets (accepts d v)
 unfolding accepts
 access-keeps c d resets v a e f = record { leaves = e ∙ sym (if-false _ _ _ (and-no-right _ _ f)); agrees = a }

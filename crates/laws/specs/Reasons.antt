@@ -30,7 +30,7 @@ abbrev pub reasonAfterWrite : Controller → ℕ → ℕ → Outcome → Reason
 reasonAfterWrite c register value o =
     if eqb (o .refused) 0 and eqb register 2 and eqb (c .pointer) 5 and completesReset c value then Reset else c .reason
 
-pub record ReasonFollows (c : Controller) : Type 0 where
+pub record ReasonAfter (c : Controller) : Type 0 where
   pub event : (number argument : ℕ) → eventOf c number argument .next .reason ≡ reasonAfterEvent c number (eventOf c number argument)
   pub write : (register value : ℕ) → writeOf c register value .next .reason ≡ reasonAfterWrite c register value (writeOf c register value)
   -- no read sets it
@@ -38,15 +38,15 @@ pub record ReasonFollows (c : Controller) : Type 0 where
 
 -- any record
 abbrev pub ReasonsFollow : Type 0
-ReasonsFollow = (c : Controller) → ReasonFollows c
+ReasonsFollow = (c : Controller) → ReasonAfter c
 
 -- Whenever SI is 1, the reason is that of the status that I2CSTA shows.
-abbrev pub Agrees : Controller → Type 0
-Agrees c = interrupts c ≡ true → c .reason ≡ reasonOf (statusOf (c .turn))
+abbrev pub ReasonOfStatus : Controller → Type 0
+ReasonOfStatus c = interrupts c ≡ true → c .reason ≡ reasonOf (statusOf (c .turn))
 
 -- So it is in the fresh controller, and each event, write and read, accepted or refused, leaves it so.
 pub record ReasonAgrees : Type 0 where
-  pub fresh-agrees : Agrees fresh
-  pub event : (c : Controller) (number argument : ℕ) → Agrees c → Agrees (eventOf c number argument .next)
-  pub write : (c : Controller) (register value : ℕ) → Agrees c → Agrees (writeOf c register value .next)
-  pub read : (c : Controller) (register : ℕ) → Agrees c → Agrees (readOf c register .next)
+  pub fresh-agrees : ReasonOfStatus fresh
+  pub event : (c : Controller) (number argument : ℕ) → ReasonOfStatus c → ReasonOfStatus (eventOf c number argument .next)
+  pub write : (c : Controller) (register value : ℕ) → ReasonOfStatus c → ReasonOfStatus (writeOf c register value .next)
+  pub read : (c : Controller) (register : ℕ) → ReasonOfStatus c → ReasonOfStatus (readOf c register .next)

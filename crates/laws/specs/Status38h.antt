@@ -31,8 +31,8 @@ turnAfterWriteAt38h c register value =
 abbrev pub storedAt38h : Control → Control → Control
 storedAt38h old k = record { aa = k .aa; ensio = k .ensio; sta = k .sta; sto = old .sto; mode = k .mode }
 
--- What any event does. "Another's STOP then leads to Free with F8h; event 12 with TE 1 gives 78h": the turn changes, with 78h the reason, and nothing
--- else, so hand place and moved count stay. The reset pin resets. Every other is refused, by the first of the lines 1, 2 and 8 that applies.
+-- What any event does. "Another's STOP then leads to Free with F8h; event 12 with TE 1 gives 78h": the turn changes, with 78h the reason too, and
+-- nothing else, so hand place and moved count stay. The reset pin resets. Every other is refused, by the first of the lines 1, 2 and 8 that applies.
 abbrev pub eventAt38h : Controller → ℕ → ℕ → Outcome
 eventAt38h c number argument =
     if eqb number 0 or ltb 14 number then refuses c 1

@@ -33,7 +33,7 @@ use Rattle.noninterference.specs.OldBytes.{
   otherStop,
   addressByte,
   Compared,
-  compared,
+  ofStep,
   answered,
   Step,
   ofAccess,
@@ -170,7 +170,7 @@ record StepSame (s s′ : Step) : Type 0 where
   seen : s .seen ≡ s′ .seen
 
 -- the reason is one of the items that twins share
-compared-same : (s s′ : Step) → StepSame s s′ → compared s ≡ compared s′
+compared-same : (s s′ : Step) → StepSame s s′ → ofStep s ≡ ofStep s′
 compared-same s s′ e = simp (e .seen, ap (λ (c : Controller). c .reason) (e .twin .rest))
 
 access-same : (c c′ : Controller) (o o′ : Outcome) → Twin c c′ → Blind c o o′ → Blind c′ o′ o → StepSame (ofAccess o) (ofAccess o′)

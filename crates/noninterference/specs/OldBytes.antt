@@ -1,6 +1,6 @@
 -- Demand 3, whole, as one statement, `Demand3`, at the end of this file. That it holds is `demand-3` in
--- proofs/Theorem.antt; nothing of the proof has to be read to know what is claimed. Quotations are of document 01, but where `demand`
--- stands before them: those are of the demand itself, which document 01 spells out.
+-- proofs/Theorem.antt; nothing of the proof has to be read to know what is claimed. Quotations are of document 01, but where
+-- `demand` stands before them, those of the demand itself, which document 01 spells out, or document 02.
 --
 -- The statement speaks of the definitions. The code's `write`, `event` and `run_job` are proved equal to them, and the caller's
 -- destination then begins with what is called `handed` here, the out record with `sent` (`always-fits`, crates/runs).
@@ -71,7 +71,7 @@ ofJob r = record {
 abbrev pub reportOf : Request → Controller → Report
 reportOf q c = jobOf (q .job) (q .payload) (q .destinationLength) (q .outLength) (q .script) c
 
--- each item by the rules of document 01
+-- each item by the rules of document 01, as the landed requests of document 02 mend them
 abbrev pub step : Item → Controller → Step
 step (runJob q) c = ofJob (reportOf q c)
 step (resetPin argument) c = ofAccess (eventOf c 14 argument)
@@ -88,14 +88,14 @@ pub record Compared : Type 0 where
   pub seen : Seen
   pub reason : Reason
 
-abbrev pub compared : Step → Compared
-compared s = record { seen = s .seen; reason = s .next .reason }
+abbrev pub ofStep : Step → Compared
+ofStep s = record { seen = s .seen; reason = s .next .reason }
 
 -- "Each one on the list, accepted or refused, gets the record that the one before left, and nothing else writes the two records
 -- meanwhile."
 unfoldable pub observe : List Item → Controller → List Compared
 observe [] c = []
-observe (i ∷ items) c = compared (step i c) ∷ observe items (step i c .next)
+observe (i ∷ items) c = ofStep (step i c) ∷ observe items (step i c .next)
 
 -- "A finished read is a read answered 0": it hands up exactly what the bus carried (`carried`, runs/specs/OneRun.antt), n of them
 abbrev pub HandsUpCarried : Request → Report → Type 0

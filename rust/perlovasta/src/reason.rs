@@ -3,13 +3,18 @@
 use std::fmt;
 
 /// Why a move ended: set by each new status but F8h and by a reset, and kept by everything else.
+///
+/// It does not tell whether a read is done: one that is ends with status 58h, one whose address was
+/// not acknowledged with 48h, and both are [`Nack`](Reason::Nack). A job's [`Answer`](crate::Answer)
+/// tells.
 #[derive(Clone, Copy, Debug, PartialEq, Eq, Hash)]
 pub enum Reason {
-    /// None yet: the controller is fresh, or its status is one with which a move begins.
+    /// None yet: the controller is fresh, or its last status but F8h was 08h, 10h, 60h, A8h or D0h.
     NoneYet,
-    /// The address byte, or the last data byte, was acknowledged.
+    /// The last data byte was acknowledged, or (18h, 40h) the address byte.
     CountReached,
-    /// A byte was not acknowledged. So ends a read that is done: its last byte is not.
+    /// A byte was not acknowledged, the last one included: by the other side (20h, 30h, 48h, C0h) or
+    /// by the controller (58h, 88h, E8h).
     Nack,
     /// Another's START or STOP ended a slave reception.
     Outside,
@@ -47,10 +52,10 @@ impl Reason {
 impl fmt::Display for Reason {
     fn fmt(&self, f: &mut fmt::Formatter<'_>) -> fmt::Result {
         f.write_str(match self {
-            Reason::NoneYet => "no move has ended yet",
+            Reason::NoneYet => "none yet",
             Reason::CountReached => "the count was reached",
             Reason::Nack => "a byte was not acknowledged",
-            Reason::Outside => "another's START or STOP came",
+            Reason::Outside => "another's START or STOP ended a slave reception",
             Reason::ArbitrationLost => "arbitration was lost",
             Reason::Fault => "bus fault",
             Reason::Reset => "reset",

@@ -66,7 +66,7 @@ pub fn run_trace<'a>(trace: &[u8], log: &'a mut [u8]) -> Result<Entries<'a>, Tra
     Ok(Entries::of(&log[..entries * ENTRY_LEN]))
 }
 
-/// Why the library did not run this trace: the first reason that applies.
+/// Why the library did not run this trace: the first that applies.
 fn why_not(trace: &[u8]) -> TraceError {
     let (groups, rest) = trace.as_chunks::<GROUP_LEN>();
     if !rest.is_empty() {

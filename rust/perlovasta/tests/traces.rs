@@ -124,7 +124,7 @@ fn software_reset() {
     assert!(!reset.armed && reset.pointer == 0);
 }
 
-/// Request 8 of document 02: each reason once, in the order in which a trace meets them.
+/// Request 8 of document 02: each reason once, in the order of their numbers.
 #[test]
 fn reasons() {
     let sending = [write(1, 0xA0), write(3, 0x40)];

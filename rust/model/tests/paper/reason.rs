@@ -19,7 +19,7 @@ const LISTS: [(Reason, &[u8]); 5] = [
     (Reason::Fault, &[0x00, 0x70, 0x78]),
 ];
 
-/// By the lists; "all others: none yet".
+/// By the lists. "All others, and the program's fresh controller: none yet."
 fn listed(status: u8) -> Reason {
     let found = LISTS.iter().find(|(_, list)| list.contains(&status));
     found.map_or(Reason::NoneYet, |&(reason, _)| reason)

@@ -8,8 +8,8 @@ use Rattle.console.proofs.reason.put_reason.Tie as tie
 returns : tie.Need-returns
 unfolding reasonText
 returns c =
-    let name = c .before .before in
-    chain _ _ _ _ (name .before .before .before .before .put-word .ensures) (name .put-name .ensures)
+    let word = c .before .before in
+    chain _ _ _ _ (word .before .before .before .before .put-word .ensures) (word .put-reason-word .ensures)
 
 pub put-reason-spec : {M : Type 1} → statement M
 put-reason-spec =

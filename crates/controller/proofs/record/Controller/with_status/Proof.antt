@@ -10,7 +10,7 @@ use Rattle.controller.proofs.record.Controller.with_status.Tie as tie
 returns : tie.Need-returns
 returns c =
     let s = c .before .before .args in
-    c .with-turn .ensures ∙ ap (λ (r : Reason). withReason (withTurn (s .self) (Host (s .status) (s .edge))) r) (c .before .of-status .ensures)
+    c .with-turn-and-reason .ensures ∙ ap (λ (r : Reason). withReason (withTurn (s .self) (Host (s .status) (s .edge))) r) (c .before .of-status .ensures)
 
 pub with-status-spec : {M : Type 1} → statement M
 with-status-spec = tie.close (tie.spec (λ c κs. search needs) (λ c κs. search needs) returns)

@@ -1,8 +1,8 @@
--- `put_name` puts the word of each reason.
+-- `put_reason_word` puts the word of each reason.
 use borrow.Author.Needs.{needs}
 use Rattle.console.specs.ReasonText.{reasonWord}
-use Rattle.console.proofs.reason.put_name.Statement.{statement}
-use Rattle.console.proofs.reason.put_name.Tie as tie
+use Rattle.console.proofs.reason.put_reason_word.Statement.{statement}
+use Rattle.console.proofs.reason.put_reason_word.Tie as tie
 
 returns : tie.Need-returns
 unfolding reasonWord
@@ -32,8 +32,8 @@ returns-7 : tie.Need-returns-7
 unfolding reasonWord
 returns-7 c = rw (c .before .before .before .before .before .enum-told7 .given .1) (c .before .before .put-word7 .ensures)
 
-pub put-name-spec : {M : Type 1} → statement M
-put-name-spec =
+pub put-reason-word-spec : {M : Type 1} → statement M
+put-reason-word-spec =
     tie.close
     (tie.spec
     (λ c. search needs)
