@@ -14,7 +14,7 @@ from collections import Counter
 import bench
 import driver
 import lost_ways
-from model import REASONS
+from model import IDLE_REASONS, REASONS
 from random_jobs import job_group, job_input
 
 GROUPS = 5000
@@ -31,8 +31,6 @@ ANSWERS = {0} | set(range(21, 30))       # Jobs: every answer
 # Ask 5: whom events 5 and 8 call, each with the status it gives
 WANTED_CALLS = {"60 own write", "A8 own read", "D0 general", "F8 none",
                 "68 own write", "B0 own read", "D8 general", "38 none"}
-# Ask 8: the reasons at F8h, for a fault is left by a reset alone
-IDLE_REASONS = set(REASONS) - {"fault"}
 # Ask 2: ways out of 38h
 STOP, TIMEOUT, RESET = (2, 3, 0), (2, 12, 0), (2, 14, 0)
 OUT = (STOP, TIMEOUT, RESET, (1, 0, 5, 1, 2, 0xA5, 1, 2, 0x5A), (1, 3, 0x80))

@@ -53,13 +53,12 @@ CALLS = {"own R 0": ("own write", "own write"),
 # Ask 5: how lines of event-05 and event-08 end
 ENDS = (" called own write 70", " called own read 70", " called general 00",
         " called none 70", " called none 71", " called none 00")
-# Ask 8: the reasons at F8h, for a fault is left by a reset alone; and those
-# that a job ends with: 21 and 22 keep any, 27 and 28 are as reached
-IDLE_REASONS = set(model.REASONS) - {"fault"}
+# Ask 8: the reasons that a job ends with: 21 and 22 keep any, 27 and 28 are
+# as reached
 JOB_REASONS = {0: {"count", "nack"}, 21: set(model.REASONS),
                22: set(model.REASONS), 23: {"nack"}, 24: {"nack"},
-               25: {"arbitration"}, 26: {"fault"}, 27: IDLE_REASONS,
-               28: IDLE_REASONS, 29: {"reset"}}
+               25: {"arbitration"}, 26: {"fault"}, 27: model.IDLE_REASONS,
+               28: model.IDLE_REASONS, 29: {"reset"}}
 
 
 def check_coverage():
@@ -105,7 +104,7 @@ def check_lost():
 def check_reasons(files):
     """Ask 8: each status with its reason, each answer with its reasons."""
     wanted = {(s, model.reason_of(s)) for s in model.STATUSES}
-    wanted |= {(0xF8, reason) for reason in IDLE_REASONS}
+    wanted |= {(0xF8, reason) for reason in model.IDLE_REASONS}
     assert SEEN_REASONS == wanted
     for status, reason in wanted:
         line = re.compile(f"status {status:02X} .* reason {reason}\\b")

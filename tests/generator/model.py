@@ -26,6 +26,8 @@ ENDED = {"count": (0x18, 0x28, 0x40, 0x50, 0x80, 0xB8, 0xC8, 0xE0),
          "arbitration": (0x38, 0x68, 0xB0, 0xD8),
          "fault": (0x00, 0x70, 0x78)}
 REASONS = ("none",) + tuple(ENDED) + ("reset",)
+# those at F8h, for a fault is left by a reset alone
+IDLE_REASONS = set(REASONS) - {"fault"}
 
 # Registers: address 3, I2CCON = AA 7, ENSIO 6, STA 5, STO 4, SI 3, MODE 0
 AA, ENSIO, STA, STO, SI, MODE = 0x80, 0x40, 0x20, 0x10, 0x08, 0x01
