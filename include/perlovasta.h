@@ -29,7 +29,7 @@
  * the pointer, 0 to 7; 1 if the software reset is armed, else 0. */
 #define PERLOVASTA_REASON(entry) (((entry)[6] >> 4) & 7)
 #define PERLOVASTA_POINTER(entry) ((entry)[6] & 15)
-#define PERLOVASTA_ARMED(entry) ((entry)[6] >> 7)
+#define PERLOVASTA_ARMED(entry) (((entry)[6] >> 7) & 1)
 
 #ifdef __cplusplus
 extern "C" {
@@ -107,7 +107,7 @@ bool perlovasta_job(uint8_t kind, uint8_t address, uint8_t n,
  * kept by everything else, so while a data move goes on it is that of the
  * status before. PERLOVASTA_REASON takes it from an entry. It does not tell
  * whether a read is done: one that is ends with 58h, one whose address was not
- * acknowledged with 48h, and both are 2.
+ * acknowledged with 48h, and both are 2. A job's answer tells.
  *   0  none yet: fresh, or set by 08h, 10h, 60h, A8h, D0h
  *   1  count reached: 28h, 50h, 80h, B8h, C8h, E0h, and 18h and 40h, where no
  *      data byte has moved yet

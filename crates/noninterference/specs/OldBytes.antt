@@ -1,6 +1,6 @@
 -- Demand 3, whole, as one statement, `Demand3`, at the end of this file. That it holds is `demand-3` in
--- proofs/Theorem.antt; nothing of the proof has to be read to know what is claimed. Quotations are of document 01, but where
--- `demand` stands before them, those of the demand itself, which document 01 spells out, or document 02.
+-- proofs/Theorem.antt; nothing of the proof has to be read to know what is claimed. Quotations are of document 01; where
+-- `demand` or `document 02` stands before one, it is of the demand itself, which document 01 spells out, or of document 02.
 --
 -- The statement speaks of the definitions. The code's `write`, `event` and `run_job` are proved equal to them, and the caller's
 -- destination then begins with what is called `handed` here, the out record with `sent` (`always-fits`, crates/runs).

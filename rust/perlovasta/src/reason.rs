@@ -9,7 +9,8 @@ use std::fmt;
 /// tells.
 #[derive(Clone, Copy, Debug, PartialEq, Eq, Hash)]
 pub enum Reason {
-    /// None yet: the controller is fresh, or its last status but F8h was 08h, 10h, 60h, A8h or D0h.
+    /// None yet: the controller is fresh, or its last status but F8h was 08h, 10h, 60h, A8h or D0h,
+    /// with no reset since.
     NoneYet,
     /// The last data byte was acknowledged, or (18h, 40h) the address byte.
     CountReached,
