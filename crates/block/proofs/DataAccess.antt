@@ -71,7 +71,8 @@ reach-stays c buffer armed h =
 below : (n : ℕ) → n < 68 → eqb n 68 ≡ false
 below n h = ne-eqb n 68 (λ (e : n ≡ 68). omega (arith, e, h))
 
-outside : (A : Type 0) (c : Controller) → reachOf c ≤ c .hand → (sound c ≡ false → A) → (sound c ≡ true → waits (c .turn) wireTurns ≡ true → A) →
+outside : (A : Type 0) (c : Controller) → reachOf c ≤ c .hand → (sound c ≡ false → A) →
+    (sound c ≡ true → waits (c .turn) wireTurns ≡ true → A) →
     (sound c ≡ true → waits (c .turn) wireTurns ≡ false → eqb (c .hand) 68 ≡ true → A) → A
 outside A c h unsound wire full = go (sound c) (waits (c .turn) wireTurns) refl refl
   where

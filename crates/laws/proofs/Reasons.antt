@@ -42,12 +42,6 @@ use Rattle.laws.proofs.Kept.{Quiet, free-quiet, busy-quiet, listen-quie
 use Rattle.laws.proofs.KeptAccesses.{WriteLeads, response-clears}
 use Rattle.laws.specs.Reasons.{ReasonsFollow, ReasonOfStatus, ReasonAgrees}
 
-same-reason : (c : Controller) → c .reason ≡ c .reason
-same-reason c = refl
-
-same-turn : (c : Controller) → c .turn ≡ c .turn
-same-turn c = refl
-
 -- SI is 0, or turn and reason are as they were
 silent : (t : Turn) (r : Reason) → among (kind t) (host ∷ []) ≡ false → among (kind t) (host ∷ []) ≡ true → r ≡ reasonOf (statusOf t)
 silent t r q i = absurd (true≢false (sym i ∙ q))
@@ -108,7 +102,7 @@ not-host : (x : ℕ) (ks : List ℕ) → among x ks ≡ true → T (every (λ k.
 not-host x ks e t = apart x ks (host ∷ []) t e
 
 ruleset ends =
-    (refused, keeping, waiting, interrupted, status-changed, choose, same-reason, not-host, free-quiet, busy-quiet, listen-quiet, refl, tt)
+    (refused, keeping, waiting, interrupted, status-changed, choose, not-host, free-quiet, busy-quiet, listen-quiet, refl, tt)
 
 -- a match, and the address called, by their cases
 found : (c : Controller) (m : Match) → Follows c false (addressed c m)
@@ -185,7 +179,7 @@ unfolding controlled
 stays c k t resets e f = written c _ resets e refl f
 
 ruleset accesses =
-    (access-refused, accessed, written, completed, choose-access, leads, same-turn, same-reason, not-two, and-true, and-no-left, and-no-right, refl)
+    (access-refused, accessed, written, completed, choose-access, leads, not-two, and-true, and-no-left, and-no-right, refl)
 
 -- at 38h it leaves the turn
 next-at-38h : (e : Edge) (k : Control) (t : Turn) → Next t ≡ response (Host 0x38 e) k → t ≡ Host 0x38 e

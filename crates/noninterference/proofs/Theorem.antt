@@ -175,7 +175,8 @@ compared-same s s′ e = simp (e .seen, ap (λ (c : Controller). c .reason) (e .
 
 access-same : (c c′ : Controller) (o o′ : Outcome) → Twin c c′ → Blind c o o′ → Blind c′ o′ o → StepSame (ofAccess o) (ofAccess o′)
 access-same c c′ o o′ t e e′ =
-    record { twin = twins o o′ t e e′; seen = ap (λ (r : ℕ). answered r (o .value)) (e .refused) ∙ ap (λ (v : ℕ). answered (o′ .refused) v) (e .value) }
+    let seen = ap (λ (r : ℕ). answered r (o .value)) (e .refused) ∙ ap (λ (v : ℕ). answered (o′ .refused) v) (e .value) in
+    record { twin = twins o o′ t e e′; seen = seen }
 
 write-same : (c c′ : Controller) (register value : ℕ) → Twin c c′ →
     StepSame (ofAccess (writeOf c register value)) (ofAccess (writeOf c′ register value))
