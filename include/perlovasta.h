@@ -24,12 +24,24 @@
 #define PERLOVASTA_GROUP 3u   /* bytes of a trace for each access or event */
 #define PERLOVASTA_ENTRY 8u   /* bytes of a log for each access or event */
 
-/* entry points to the first of the eight bytes for a group, which for group k,
- * from 0 on, is log + k * PERLOVASTA_ENTRY. Why the last move ended, 0 to 6;
- * the pointer, 0 to 7; 1 if the software reset is armed, else 0. */
-#define PERLOVASTA_REASON(entry) (((entry)[6] >> 4) & 7)
-#define PERLOVASTA_POINTER(entry) ((entry)[6] & 15)
-#define PERLOVASTA_ARMED(entry) (((entry)[6] >> 7) & 1)
+/* What a log says of group k, counted from 0: why a move ended, one of the
+ * numbers below; the pointer, 0 to 7; 1 if the software reset is armed, else
+ * 0. */
+#define PERLOVASTA_BYTE_6(log, k) ((log)[(size_t)(k) * PERLOVASTA_ENTRY + 6])
+#define PERLOVASTA_REASON(log, k) ((PERLOVASTA_BYTE_6(log, k) >> 4) & 7)
+#define PERLOVASTA_POINTER(log, k) (PERLOVASTA_BYTE_6(log, k) & 15)
+#define PERLOVASTA_ARMED(log, k) ((PERLOVASTA_BYTE_6(log, k) >> 7) & 1)
+
+/* Why a move ended. None of these says that a job is done. */
+enum perlovasta_reason {
+    PERLOVASTA_NONE_YET = 0,
+    PERLOVASTA_COUNT_REACHED = 1,
+    PERLOVASTA_NACK = 2,
+    PERLOVASTA_OUTSIDE = 3,
+    PERLOVASTA_ARBITRATION_LOST = 4,
+    PERLOVASTA_FAULT = 5,
+    PERLOVASTA_RESET = 6
+};
 
 #ifdef __cplusplus
 extern "C" {
@@ -95,19 +107,20 @@ bool perlovasta_job(uint8_t kind, uint8_t address, uint8_t n,
  *          3  register 3 (I2CCON) after it
  *          4  hand place after it
  *          5  moved count after it
- *          6  bits 0 to 3: pointer after it
- *             bits 4 to 6: why the last move ended, see below
+ *          6  three things, to be taken by the macros above:
+ *             bits 0 to 3: pointer after it
+ *             bits 4 to 6: why a move ended, see below
  *             bit 7: set if the software reset is armed
  *          7  turn after it: 0 Off, 1 Host, 2 Free, 3 Busy, 4 Listen,
  *             5 Address, 6 Send, 7 Receive, 8 SlaveReceive, 9 SlaveSend,
  *             10 Stopping, 11 Restarting; 17 is Host at A0h after a START,
  *             24 is SlaveReceive by General Call
  *
- * Why the last move ended: set by each new status but F8h and by a reset, and
- * kept by everything else, so while a data move goes on it is that of the
- * status before. PERLOVASTA_REASON takes it from an entry. It does not tell
- * whether a read is done: one that is ends with 58h, one whose address was not
- * acknowledged with 48h, and both are 2. A job's answer tells.
+ * Why a move ended: set by each new status but F8h and by a reset, and kept by
+ * everything else, so while a data move goes on it is that of the status
+ * before. It does not tell whether a job is done: a read that is ends with 58h,
+ * one whose address was not acknowledged with 48h, and both are 2; a write has
+ * 1 at 18h, before any data byte, as it has at 28h. A job's answer tells.
  *   0  none yet: fresh, or set by 08h, 10h, 60h, A8h, D0h
  *   1  count reached: 28h, 50h, 80h, B8h, C8h, E0h, and 18h and 40h, where no
  *      data byte has moved yet

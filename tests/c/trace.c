@@ -5,20 +5,19 @@
 
 int main(void)
 {
-    /* I2CCON 40h: enabled, Free. Another's START: Listen. SCL held low: 78h, a fault. Pointer 05h. A5h: armed. Reset pin: Off. */
+    /* I2CCON 40h: enabled, Free. Another's START: Listen. SCL held low: 78h, a fault. Reset pin: Off. Pointer 05h. A5h: armed. */
     static const uint8_t trace[] = {
-        0x01, 0x03, 0x40, 0x02, 0x02, 0x00, 0x02, 0x0C, 0x00, 0x01, 0x00, 0x05, 0x01, 0x02, 0xA5, 0x02, 0x0E, 0x00,
+        0x01, 0x03, 0x40, 0x02, 0x02, 0x00, 0x02, 0x0C, 0x00, 0x02, 0x0E, 0x00, 0x01, 0x00, 0x05, 0x01, 0x02, 0xA5,
     };
     static const uint8_t expected[] = {
         0, 0, 0xF8, 0x40, 0, 0, 0x00, 2,
         0, 0, 0xF8, 0x40, 0, 0, 0x00, 4,
         0, 0, 0x78, 0x48, 0, 0, 0x50, 1,
-        0, 0, 0x78, 0x48, 0, 0, 0x55, 1,
-        0, 0, 0x78, 0x48, 0, 0, 0xD5, 1,
         0, 0, 0xF8, 0x00, 0, 0, 0x60, 0,
+        0, 0, 0xF8, 0x00, 0, 0, 0x65, 0,
+        0, 0, 0xF8, 0x00, 0, 0, 0xE5, 0,
         0xEE,
     };
-    const uint8_t *armed = expected + 4 * PERLOVASTA_ENTRY, *reset = expected + 5 * PERLOVASTA_ENTRY;
     uint8_t log[sizeof expected], before[sizeof expected];
     memset(log, 0xEE, sizeof log);
     memcpy(before, log, sizeof log);
@@ -31,9 +30,9 @@ int main(void)
         puts("the log of six groups: not what is expected");
         return 1;
     }
-    if (PERLOVASTA_REASON(armed) != 5 || PERLOVASTA_POINTER(armed) != 5 || PERLOVASTA_ARMED(armed) != 1 ||
-        PERLOVASTA_REASON(reset) != 6 || PERLOVASTA_POINTER(reset) != 0 || PERLOVASTA_ARMED(reset) != 0) {
-        puts("reason, pointer or armed of an entry: not what is expected");
+    if (PERLOVASTA_REASON(log, 2) != PERLOVASTA_FAULT || PERLOVASTA_POINTER(log, 2) != 0 || PERLOVASTA_ARMED(log, 2) != 0 ||
+        PERLOVASTA_REASON(log, 5) != PERLOVASTA_RESET || PERLOVASTA_POINTER(log, 5) != 5 || PERLOVASTA_ARMED(log, 5) != 1) {
+        puts("reason, pointer or armed of a group: not what is expected");
         return 1;
     }
     return 0;

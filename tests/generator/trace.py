@@ -141,7 +141,7 @@ def note_cover(c, was, before, kind, a, b, number):
     turn = "Host" if before["turn"].name == "Host" else was
     if was == "38":
         note_lost(c, before, kind, a, b, number)
-    note_reason(c, before)
+    note_reason(c, before, (kind, a, b), number)
     if kind == 2:
         SEEN_EVENTS.add((turn, a))
     if kind == 1 and a == 3:
@@ -156,12 +156,16 @@ def note_cover(c, was, before, kind, a, b, number):
         assert snapshot(c) == before, "a refusal leaves the record"
 
 
-def note_reason(c, before):
+def note_reason(c, before, group, number):
     """Ask 8: set with each new status but F8h, and by a reset, else kept."""
-    if c.turn.name == "Host":
+    completes = before["armed"] and before["pointer"] == 5
+    if not number and (group[:2] == (2, 14) or
+                       completes and group == (1, 2, 0x5A)):
+        assert c.reason == "reset"
+    elif c.turn.name == "Host" and c.turn != before["turn"]:
         assert c.reason == model.reason_of(c.status())
     else:
-        assert c.reason in (before["reason"], "reset")
+        assert c.reason == before["reason"]
     SEEN_REASONS.add((c.status(), c.reason))
 
 

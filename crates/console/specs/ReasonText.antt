@@ -1,4 +1,4 @@
--- Document 02, request 8: the words for why a move ended, in each record line of a trace.
+-- The words for why a move ended, in each record line of a trace. (Document 02, request 8, names the reasons; the words are the program's.)
 use mathlib.Core.List.{List, [], _∷_, _++_}
 use Prim.Native.Nat.{ℕ}
 use Rattle.control.specs.declared.reason.Reason.the-variants.{NoneYet, CountReached, Nack, Outside, ArbitrationLost, Fault, Reset}

@@ -2,7 +2,7 @@
 ghost use mathlib.Core.Path.{_≡_};
 ghost use Rattle.control.specs.Reason.{reasonOf, reasonNumber};
 
-// That of the last status but F8h, or of a reset after it.
+// Set with each new status but F8h and by a reset, otherwise kept; a fresh controller has none yet.
 pub enum Reason {
     NoneYet,
     // The address byte, or the last data byte of a move, was acknowledged.

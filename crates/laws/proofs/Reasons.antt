@@ -41,6 +41,7 @@ use Rattle.notation.specs.Choice.{if_then_else_, _and_, among}
 use Rattle.laws.proofs.Kept.{Quiet, free-quiet, busy-quiet, listen-quiet, off-quiet}
 use Rattle.laws.proofs.KeptAccesses.{WriteLeads, response-clears}
 use Rattle.laws.specs.Reasons.{ReasonsFollow, ReasonOfStatus, ReasonAgrees}
+use Rattle.laws.specs.SoftwareReset.{resetsBySoftware}
 
 -- SI is 0, or turn and reason are as they were
 silent : (t : Turn) (r : Reason) → among (kind t) (host ∷ []) ≡ false → among (kind t) (host ∷ []) ≡ true → r ≡ reasonOf (statusOf t)
@@ -54,48 +55,45 @@ reset-agrees : (buffer : List ℕ) (reason : Reason) → ReasonOfStatus (resetWi
 unfolding resetWith
 reset-agrees buffer reason = silent Off reason (off-quiet .0)
 
--- What an event makes of the reason; `pin` says whether it is the reset pin.
-record Follows (c : Controller) (pin : Bool) (o : Outcome) : Type 0 where
+-- What an access or event makes of the reason: `resets` says whether it resets where it is accepted, `event` whether it is an event, and can give a status.
+record Follows (c : Controller) (resets event : Bool) (o : Outcome) : Type 0 where
   follows :
       o .next .reason ≡
       (if ltb 0 (o .refused) then c .reason
-      else if pin then Reset
-      else if interrupts (o .next) then reasonOf (statusOf (o .next .turn))
+      else if resets then Reset
+      else if event and interrupts (o .next) then reasonOf (statusOf (o .next .turn))
       else c .reason)
   agrees : ReasonOfStatus c → ReasonOfStatus (o .next)
 
 -- the ends of the rules
-refused : (c : Controller) (pin : Bool) (n : ℕ) → ltb 0 n ≡ true → Follows c pin (refuses c n)
+refused : (c : Controller) (resets event : Bool) (n : ℕ) → ltb 0 n ≡ true → Follows c resets event (refuses c n)
 unfolding refuses
-refused c pin n e = record { follows = sym (if-true _ _ _ e); agrees = λ h. h }
+refused c resets event n e = record { follows = sym (if-true _ _ _ e); agrees = λ h. h }
 
--- the reason is kept, and SI is 0 after it
-keeping : (c d : Controller) (v : ℕ) → d .reason ≡ c .reason → among (kind (d .turn)) (host ∷ []) ≡ false → Follows c false (accepts d v)
-unfolding accepts if_then_else_
+reset-done : (c : Controller) (resets event : Bool) → resets ≡ true → Follows c resets event (accepts (reset c) 0)
+unfolding accepts resetWith if_then_else_
+reset-done c resets event e = record { follows = sym (if-true _ _ _ e); agrees = λ _. reset-agrees (c .buffer) Reset }
+
+choose : (c : Controller) (resets event b : Bool) (x y : Outcome) → (b ≡ true → Follows c resets event x) → (b ≡ false → Follows c resets event y) →
+    Follows c resets event (if b then x else y)
+choose c resets event b x y p q = split (Follows c resets event) b x y p q
+
+-- Events. The reason is kept, and SI is 0 after it.
+keeping : (c d : Controller) (v : ℕ) → d .reason ≡ c .reason → among (kind (d .turn)) (host ∷ []) ≡ false → Follows c false true (accepts d v)
+unfolding accepts if_then_else_ _and_
 keeping c d v e t = record { follows = e ∙ sym (if-false _ _ _ t); agrees = λ _. silent (d .turn) (d .reason) t }
 
-waiting : (c d : Controller) (t : Turn) (v : ℕ) → d .reason ≡ c .reason → Quiet t → Follows c false (waitsFor d t v)
+waiting : (c d : Controller) (t : Turn) (v : ℕ) → d .reason ≡ c .reason → Quiet t → Follows c false true (waitsFor d t v)
 unfolding waitsFor
 waiting c d t v e q = keeping c (withTurn d t) v e (q .0)
 
-interrupted : (c d : Controller) (s : ℕ) (e : Edge) (v : ℕ) → Follows c false (interruptsAt d s e v)
-unfolding interruptsAt accepts kind statusOf among if_then_else_
+interrupted : (c d : Controller) (s : ℕ) (e : Edge) (v : ℕ) → Follows c false true (interruptsAt d s e v)
+unfolding interruptsAt accepts kind statusOf among if_then_else_ _and_
 interrupted c d s e v = record { follows = refl; agrees = λ _ _. refl }
 
-status-changed : (c d : Controller) (s : ℕ) → Follows c false (changesStatus d s)
-unfolding changesStatus accepts kind statusOf among if_then_else_
+status-changed : (c d : Controller) (s : ℕ) → Follows c false true (changesStatus d s)
+unfolding changesStatus accepts kind statusOf among if_then_else_ _and_
 status-changed c d s = record { follows = refl; agrees = λ _ _. refl }
-
-pin-pulled : (c : Controller) (pin : Bool) → pin ≡ true → Follows c pin (accepts (reset c) 0)
-unfolding accepts resetWith if_then_else_
-pin-pulled c pin e = record { follows = sym (if-true _ _ _ e); agrees = λ _. reset-agrees (c .buffer) Reset }
-
-no-pin : (c : Controller) (pin : Bool) (o : Outcome) → pin ≡ false → Follows c false o → Follows c pin o
-no-pin c pin o e f = subst (λ (b : Bool). Follows c b o) (sym e) f
-
-choose : (c : Controller) (pin b : Bool) (x y : Outcome) → (b ≡ true → Follows c pin x) → (b ≡ false → Follows c pin y) →
-    Follows c pin (if b then x else y)
-choose c pin b x y p q = split (Follows c pin) b x y p q
 
 -- in a turn that is listed, and Host is not listed with it
 not-host : (x : ℕ) (ks : List ℕ) → among x ks ≡ true → T (every (λ k. same (has (host ∷ []) k) false) ks) → among x (host ∷ []) ≡ false
@@ -105,64 +103,51 @@ ruleset ends =
     (refused, keeping, waiting, interrupted, status-changed, choose, not-host, free-quiet, busy-quiet, listen-quiet, refl, tt)
 
 -- a match, and the address called, by their cases
-found : (c : Controller) (m : Match) → Follows c false (addressed c m)
+found : (c : Controller) (m : Match) → Follows c false true (addressed c m)
 unfolding addressed
 found c General = search ends
 found c (Own Write) = search ends
 found c (Own Read) = search ends
 found c Nothing = search ends
 
-overtaken : (c : Controller) (m : Match) → Follows c false (outbid c m)
+overtaken : (c : Controller) (m : Match) → Follows c false true (outbid c m)
 unfolding outbid
 overtaken c General = search ends
 overtaken c (Own Write) = search ends
 overtaken c (Own Read) = search ends
 overtaken c Nothing = search ends
 
-slave-in : (c : Controller) (byte : ℕ) (w : Called) → among (kind (c .turn)) (slaveReceive ∷ []) ≡ true → Follows c false (slaveIn c byte w)
+slave-in : (c : Controller) (byte : ℕ) (w : Called) → among (kind (c .turn)) (slaveReceive ∷ []) ≡ true → Follows c false true (slaveIn c byte w)
 unfolding slaveIn dataIn received
 slave-in c byte called.Own t = search ends
 slave-in c byte called.General t = search ends
 
 -- every event but the reset pin, each rule with all that it calls
-event-sound : (c : Controller) (number argument : ℕ) → Follows c false (eventSound c number argument)
+event-sound : (c : Controller) (number argument : ℕ) → Follows c false true (eventSound c number argument)
 unfolding eventSound ownStart otherStart otherStop ownStop addressByte addressLost dataLost illegalEdge dataHeld clockHeld idle byteOut dataOut byteIn dataIn
     received
 event-sound c number argument = search (found, overtaken, slave-in, ends) depth 40
 
-event-follows : (c : Controller) (number argument : ℕ) → Follows c (eqb number 14) (eventOf c number argument)
+no-pin : (c : Controller) (pin : Bool) (o : Outcome) → pin ≡ false → Follows c false true o → Follows c pin true o
+no-pin c pin o e f = subst (λ (b : Bool). Follows c b true o) (sym e) f
+
+event-follows : (c : Controller) (number argument : ℕ) → Follows c (eqb number 14) true (eventOf c number argument)
 unfolding eventOf
-event-follows c number argument = search (refused, pin-pulled, no-pin, event-sound, choose) depth 8
+event-follows c number argument = search (refused, reset-done, no-pin, event-sound, choose) depth 8
 
--- What an access makes of the reason; `resets` says whether it is the write that completes the software reset.
-record Access (c : Controller) (resets : Bool) (o : Outcome) : Type 0 where
-  leaves : o .next .reason ≡ (if eqb (o .refused) 0 and resets then Reset else c .reason)
-  agrees : ReasonOfStatus c → ReasonOfStatus (o .next)
-
-access-refused : (c : Controller) (resets : Bool) (n : ℕ) → eqb n 0 ≡ false → Access c resets (refuses c n)
-unfolding refuses
-access-refused c resets n e = record { leaves = sym (if-false _ _ _ (and-no-left _ _ e)); agrees = λ h. h }
-
+-- Accesses. The reason is kept.
 access-keeps : (c d : Controller) (resets : Bool) (v : ℕ) → (ReasonOfStatus c → ReasonOfStatus d) → d .reason ≡ c .reason → resets ≡ false →
-    Access c resets (accepts d v)
-unfolding accepts
-access-keeps c d resets v a e f = record { leaves = e ∙ sym (if-false _ _ _ (and-no-right _ _ f)); agrees = a }
+    Follows c resets false (accepts d v)
+unfolding accepts if_then_else_ _and_
+access-keeps c d resets v a e f = record { follows = e ∙ sym (if-false _ _ _ f); agrees = a }
 
 accessed : (c d : Controller) (resets : Bool) (v : ℕ) → d .turn ≡ c .turn → d .reason ≡ c .reason → resets ≡ false →
-    Access c resets (accepts d v)
+    Follows c resets false (accepts d v)
 accessed c d resets v t e f = access-keeps c d resets v (as-before c d t e) e f
 
-written : (c d : Controller) (resets : Bool) → d .turn ≡ c .turn → d .reason ≡ c .reason → resets ≡ false → Access c resets (wrote d)
+written : (c d : Controller) (resets : Bool) → d .turn ≡ c .turn → d .reason ≡ c .reason → resets ≡ false → Follows c resets false (wrote d)
 unfolding wrote
 written c d resets t e f = accessed c _ resets 0 t e f
-
-completed : (c : Controller) (resets : Bool) → resets ≡ true → Access c resets (accepts (reset c) 0)
-unfolding accepts resetWith
-completed c resets e = record { leaves = sym (if-true _ _ _ (and-true _ _ refl e)); agrees = λ _. reset-agrees (c .buffer) Reset }
-
-choose-access : (c : Controller) (resets b : Bool) (x y : Outcome) → (b ≡ true → Access c resets x) → (b ≡ false → Access c resets y) →
-    Access c resets (if b then x else y)
-choose-access c resets b x y p q = split (Access c resets) b x y p q
 
 -- another register than 2
 not-two : (register k : ℕ) → eqb register k ≡ true → eqb k 2 ≡ false → eqb register 2 ≡ false
@@ -170,16 +155,16 @@ not-two register k e f = key-is k register (eqb-true register k e) false 2 f
 
 -- a write of I2CCON that leads elsewhere than to Host, or leaves the turn
 leads : (c : Controller) (k : Control) (t : Turn) (resets : Bool) → among (kind t) (host ∷ []) ≡ false → resets ≡ false →
-    Access c resets (controlled c k t)
+    Follows c resets false (controlled c k t)
 unfolding controlled wrote
 leads c k t resets q f = access-keeps c _ resets 0 (λ _. silent t (c .reason) q) refl f
 
-stays : (c : Controller) (k : Control) (t : Turn) (resets : Bool) → t ≡ c .turn → resets ≡ false → Access c resets (controlled c k t)
+stays : (c : Controller) (k : Control) (t : Turn) (resets : Bool) → t ≡ c .turn → resets ≡ false → Follows c resets false (controlled c k t)
 unfolding controlled
 stays c k t resets e f = written c _ resets e refl f
 
 ruleset accesses =
-    (access-refused, accessed, written, completed, choose-access, leads, not-two, and-true, and-no-left, and-no-right, refl)
+    (refused, reset-done, choose, accessed, written, leads, not-two, and-true, and-no-left, and-no-right, refl)
 
 -- at 38h it leaves the turn
 next-at-38h : (e : Edge) (k : Control) (t : Turn) → Next t ≡ response (Host 0x38 e) k → t ≡ Host 0x38 e
@@ -191,32 +176,37 @@ next-at-38h e k t p = ap leadsTo p
     leadsTo Unlisted = t
 
 enabling : (c : Controller) (k : Control) (r : Response) (resets : Bool) → response (c .turn) k ≡ r → resets ≡ false →
-    Access c resets (enabled c k r)
+    Follows c resets false (enabled c k r)
 unfolding enabled
 enabling c k Unlisted resets e f = search accesses
-enabling c k (Next t) resets e f = choose-access c resets _ _ _ (λ _. access-refused c resets 6 refl) (λ _. at-38h (at38h (c .turn)) refl)
+enabling c k (Next t) resets e f = choose c resets false _ _ _ (λ _. refused c resets false 6 refl) (λ _. at-38h (at38h (c .turn)) refl)
   where
-    at-38h : (b : Bool) → at38h (c .turn) ≡ b → Access c resets (controlled c k t)
+    at-38h : (b : Bool) → at38h (c .turn) ≡ b → Follows c resets false (controlled c k t)
     at-38h true a =
         let lost = at38h-host (c .turn) a in
         stays c k t resets (next-at-38h _ k t (sym e ∙ ap (λ (u : Turn). response u k) lost) ∙ sym lost) f
     at-38h false a = leads c k t resets (subst (WriteLeads _) e (response-clears (c .turn) k) .clears a) f
 
-write-follows : (c : Controller) (register value : ℕ) →
-    Access c (eqb register 2 and eqb (c .pointer) 5 and completesReset c value) (writeOf c register value)
+write-follows : (c : Controller) (register value : ℕ) → Follows c (resetsBySoftware c register value) false (writeOf c register value)
 unfolding writeOf writeSound writePointer writeData writeAtPointer writePreset writeControl writeFlags
 write-follows c register value = search (enabling, off-quiet .0, accesses) depth 20
 
-read-follows : (c : Controller) (register : ℕ) → Access c false (readOf c register)
+read-follows : (c : Controller) (register : ℕ) → Follows c false false (readOf c register)
 unfolding readOf readSound readData
 read-follows c register = search accesses depth 12
 
+either-way : {A : Type 0} (b : Bool) (x : A) → (if b then x else x) ≡ x
+unfolding if_then_else_
+either-way true x = refl
+either-way false x = refl
+
 -- REQUEST 8: the reason is set with each new status and by a reset, and otherwise kept.
 pub reasons-follow : ReasonsFollow
+unfolding if_then_else_ _and_
 reasons-follow c = record {
   event = λ number argument. event-follows c number argument .follows;
-  write = λ register value. write-follows c register value .leaves;
-  read = λ register. read-follows c register .leaves ∙ if-false _ _ _ (and-no-right _ _ refl);
+  write = λ register value. write-follows c register value .follows;
+  read = λ register. read-follows c register .follows ∙ either-way (ltb 0 (readOf c register .refused)) (c .reason);
 }
 
 pub reason-agrees : ReasonAgrees

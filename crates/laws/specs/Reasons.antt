@@ -12,9 +12,10 @@ use Rattle.controller.specs.Access.{readOf, writeOf}
 use Rattle.controller.specs.Event.{eventOf}
 use Rattle.controller.specs.Record.{interrupts}
 use Rattle.controller.specs.Reply.{Outcome}
-use Rattle.controller.specs.Reset.{fresh, completesReset}
+use Rattle.controller.specs.Reset.{fresh}
 use Rattle.controller.specs.declared.record.Controller.{Controller}
-use Rattle.notation.specs.Choice.{if_then_else_, _and_}
+use Rattle.laws.specs.SoftwareReset.{resetsBySoftware}
+use Rattle.notation.specs.Choice.{if_then_else_}
 
 -- After an event. A refused one keeps it, with all else. The reset pin sets `Reset`. An accepted event that gives a status leads to Host and sets that
 -- status's; every other keeps it.
@@ -25,10 +26,13 @@ reasonAfterEvent c number o =
     else if interrupts (o .next) then reasonOf (statusOf (o .next .turn))
     else c .reason
 
--- After a write. The accepted 5Ah that completes the software reset sets `Reset`. Every other keeps it: an I2CCON write too, also at 38h and with ENSIO 0.
+-- After a write. A refused one keeps it. The one that completes the software reset sets `Reset`; every other keeps it, an I2CCON write too, also at 38h and
+-- with ENSIO 0.
 abbrev pub reasonAfterWrite : Controller → ℕ → ℕ → Outcome → Reason
 reasonAfterWrite c register value o =
-    if eqb (o .refused) 0 and eqb register 2 and eqb (c .pointer) 5 and completesReset c value then Reset else c .reason
+    if ltb 0 (o .refused) then c .reason
+    else if resetsBySoftware c register value then Reset
+    else c .reason
 
 pub record ReasonAfter (c : Controller) : Type 0 where
   pub event : (number argument : ℕ) → eventOf c number argument .next .reason ≡ reasonAfterEvent c number (eventOf c number argument)

@@ -15,16 +15,17 @@ use Rattle.controller.specs.Event.{badArgument, eventOf}
 use Rattle.controller.specs.Record.{timeoutEnabled, sound}
 use Rattle.controller.specs.Registers.{wrote}
 use Rattle.controller.specs.Reply.{Outcome, refuses, accepts, withStatus}
-use Rattle.controller.specs.Reset.{reset, completesReset}
+use Rattle.controller.specs.Reset.{reset}
 use Rattle.controller.specs.Setters.{withHand, withMoved, withControl, withTurn}
 use Rattle.controller.specs.declared.record.Controller.{Controller}
+use Rattle.laws.specs.SoftwareReset.{resetsBySoftware}
 use Rattle.notation.specs.Choice.{if_then_else_, _and_, _or_}
 
 -- Where a write leads. To Off: "A write with ENSIO 0 still leads to Off", and the 5Ah that completes the software reset. Every other leaves turn and status.
 abbrev pub turnAfterWriteAt38h : Controller → ℕ → ℕ → Turn
 turnAfterWriteAt38h c register value =
     if eqb register 3 and not (flagsOf value .ensio) then Off
-    else if eqb register 2 and eqb (c .pointer) 5 and completesReset c value then Off
+    else if resetsBySoftware c register value then Off
     else c .turn
 
 -- "stores AA, ENSIO, STA and MODE, never STO"

@@ -1,6 +1,6 @@
 //! The same input to library and model, and all that they wrote compared.
 
-use crate::difference::{Difference, Named, first, first_entries, hex};
+use crate::difference::{Difference, Named, first, hex};
 use crate::job_case::JobCase;
 use crate::side::{LIBRARY, MODEL, Side};
 use crate::trace_case::TraceCase;
@@ -17,14 +17,10 @@ pub fn trace(case: &mut TraceCase) -> Result<bool, Difference> {
     let model: [Named; 2] = [("returned", &returned[1..]), ("log", &model_log)];
     match first(&library, &model) {
         None => Ok(given),
-        Some(place) => {
-            let entries = first_entries(&case.log, &model_log);
-            let lines = [Some(place), entries].into_iter().flatten();
-            Err(Difference {
-                input: groups_until(&case.trace, &case.log, &model_log),
-                place: lines.collect::<Vec<_>>().join("\n"),
-            })
-        }
+        Some(place) => Err(Difference {
+            input: groups_until(&case.trace, &case.log, &model_log),
+            place,
+        }),
     }
 }
 

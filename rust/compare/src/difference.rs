@@ -1,7 +1,5 @@
 //! Where library and model disagree.
 
-use crate::pointer_byte::PointerByte;
-use perlovasta::ENTRY_LEN;
 use std::fmt;
 
 /// The bytes that one of the two wrote, with their name.
@@ -41,21 +39,6 @@ fn in_bytes((name, library): Named, model: &[u8]) -> Option<String> {
     ))
 }
 
-/// The first entry that differs between the logs of library and model, as each has it.
-pub fn first_entries(library: &[u8], model: &[u8]) -> Option<String> {
-    let (library, model) = (library.as_chunks().0, model.as_chunks().0);
-    let mut pairs = library.iter().zip(model);
-    let (library, model) = pairs.find(|(library, model)| library != model)?;
-    let (library, model) = (entry(library), entry(model));
-    Some(format!("library {library}\nmodel   {model}"))
-}
-
-/// The entry in hexadecimal, with its reason in words.
-fn entry(entry: &[u8; ENTRY_LEN]) -> String {
-    let reason = PointerByte::from_byte(entry[6]).reason_name();
-    format!("{}, reason {reason}", hex(entry))
-}
-
 /// The bytes in hexadecimal.
 pub fn hex(bytes: &[u8]) -> String {
     let text: Vec<String> = bytes.iter().map(|byte| format!("{byte:02X}")).collect();
@@ -64,7 +47,7 @@ pub fn hex(bytes: &[u8]) -> String {
 
 #[cfg(test)]
 mod tests {
-    use super::{first, first_entries, hex};
+    use super::{first, hex};
 
     #[test]
     fn the_first_place_is_named() {
@@ -73,17 +56,6 @@ mod tests {
         let place = first(&library, &model);
         assert_eq!(place.as_deref(), Some("log, byte 1: library 04, model 07"));
         assert_eq!(first(&library, &library), None);
-    }
-
-    #[test]
-    fn entries_tell_the_reason() {
-        let log = |pointer| [[0; 8], [0, 0, 0xF8, 0x40, 0, 0, pointer, 2]].concat();
-        let (library, model) = (log(0xA5), log(0x15));
-        let expected = "library 00 00 F8 40 00 00 A5 02, reason NACK\n\
-                        model   00 00 F8 40 00 00 15 02, reason count reached";
-        let entries = first_entries(&library, &model);
-        assert_eq!(entries.as_deref(), Some(expected));
-        assert_eq!(first_entries(&library, &library), None);
     }
 
     #[test]

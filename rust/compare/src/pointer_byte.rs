@@ -1,16 +1,5 @@
 //! Byte 6 of a log's entry: the pointer, why a move ended, and whether the software reset is armed.
 
-/// The reasons by their numbers.
-pub const REASONS: [&str; 7] = [
-    "none yet",
-    "count reached",
-    "NACK",
-    "outside START or STOP",
-    "arbitration lost",
-    "fault",
-    "reset",
-];
-
 /// The byte taken apart.
 #[derive(Clone, Copy, Debug, PartialEq, Eq)]
 pub struct PointerByte {
@@ -37,11 +26,6 @@ impl PointerByte {
     pub const fn byte(self) -> u8 {
         self.pointer | self.reason << 4 | (self.armed as u8) << 7
     }
-
-    /// The reason in words.
-    pub fn reason_name(self) -> &'static str {
-        REASONS.get(usize::from(self.reason)).unwrap_or(&"unknown")
-    }
 }
 
 #[cfg(test)]
@@ -52,11 +36,8 @@ mod tests {
     fn three_in_one() {
         let armed = PointerByte::from_byte(0xB5);
         assert_eq!((armed.pointer, armed.reason, armed.armed), (5, 3, true));
-        assert_eq!(armed.reason_name(), "outside START or STOP");
         let reset = PointerByte::from_byte(0x60);
         assert_eq!((reset.pointer, reset.reason, reset.armed), (0, 6, false));
-        assert_eq!(reset.reason_name(), "reset");
-        assert_eq!(PointerByte::from_byte(0x70).reason_name(), "unknown");
     }
 
     #[test]

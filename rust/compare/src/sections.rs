@@ -1,8 +1,8 @@
 //! What a comparison has to reach, each with its count.
 
-use crate::pointer_byte::REASONS;
 use crate::table::{Cell, Section};
 use crate::tally::{EVENTS, LostEnd, Tally, move_index};
+use perlovasta::Reason;
 
 /// The statuses that events give.
 pub const GIVEN: [u8; 28] = [
@@ -49,7 +49,7 @@ fn trace_sections(tally: &Tally) -> Vec<Section> {
         Cell::new("pin", tally.event[14]),
         Cell::new("software", tally.software_reset),
     ];
-    let fresh = vec![Cell::new(REASONS[0], tally.reason_fresh)];
+    let fresh = vec![Cell::new(Reason::NoneYet.to_string(), tally.reason_fresh)];
     let kept = vec![Cell::new("write with ENSIO 1", tally.lost_kept)];
     let not_run = ["length", "kind of a group", "length of the log"];
     let not_run = not_run.into_iter().zip(tally.not_run);
@@ -75,9 +75,11 @@ fn trace_sections(tally: &Tally) -> Vec<Section> {
     ]
 }
 
-fn reasons(counts: [u64; REASONS.len()]) -> Vec<Cell> {
-    let named = REASONS.into_iter().zip(counts);
-    named.map(|(name, count)| Cell::new(name, count)).collect()
+fn reasons(counts: [u64; Reason::ALL.len()]) -> Vec<Cell> {
+    let named = Reason::ALL.into_iter().zip(counts);
+    named
+        .map(|(reason, count)| Cell::new(reason.to_string(), count))
+        .collect()
 }
 
 fn lost_ends(tally: &Tally) -> Vec<Cell> {
@@ -160,9 +162,9 @@ fn job_sections(tally: &Tally) -> Vec<Section> {
 #[cfg(test)]
 mod tests {
     use super::sections;
-    use crate::pointer_byte::REASONS;
     use crate::table::missing;
     use crate::tally::Tally;
+    use perlovasta::Reason;
 
     #[test]
     fn nothing_occurred() {
@@ -170,7 +172,7 @@ mod tests {
         assert!(missing.contains(&"status given A0h".to_owned()));
         assert!(missing.contains(&"turn entered SlaveReceive GC".to_owned()));
         assert!(missing.contains(&"refusal 9".to_owned()));
-        for reason in REASONS {
+        for reason in Reason::ALL {
             assert!(missing.contains(&format!("reason set {reason}")));
             assert!(missing.contains(&format!("reason kept {reason}")));
         }

@@ -7,9 +7,8 @@ mod trace;
 
 pub use lost::LostEnd;
 
-use crate::pointer_byte::REASONS;
 use crate::trace_case::Flaw;
-use perlovasta::OUT_LEN;
+use perlovasta::{OUT_LEN, Reason};
 
 /// Turns have numbers below this.
 pub const TURNS: usize = 32;
@@ -38,9 +37,9 @@ pub struct Tally {
     /// Software resets.
     pub software_reset: u64,
     /// Reasons that a new status or a reset set, by their number in a log.
-    pub reason_set: [u64; REASONS.len()],
+    pub reason_set: [u64; Reason::ALL.len()],
     /// Reasons that any other accepted group kept.
-    pub reason_kept: [u64; REASONS.len()],
+    pub reason_kept: [u64; Reason::ALL.len()],
     /// Fresh controllers that had none yet.
     pub reason_fresh: u64,
     /// Ends of 38h, in the order of [`LostEnd`].
@@ -84,8 +83,8 @@ impl Tally {
             refusal: [0; 11],
             event: [0; EVENTS],
             software_reset: 0,
-            reason_set: [0; REASONS.len()],
-            reason_kept: [0; REASONS.len()],
+            reason_set: [0; Reason::ALL.len()],
+            reason_kept: [0; Reason::ALL.len()],
             reason_fresh: 0,
             lost_left: [0; 5],
             lost_kept: 0,

@@ -25,7 +25,7 @@ pub struct Entry {
     pub armed: bool,
     /// What the controller waits for.
     pub turn: Turn,
-    /// Why the last move ended.
+    /// Why a move ended.
     pub reason: Reason,
 }
 

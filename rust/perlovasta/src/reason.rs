@@ -4,9 +4,10 @@ use std::fmt;
 
 /// Why a move ended: set by each new status but F8h and by a reset, and kept by everything else.
 ///
-/// It does not tell whether a read is done: one that is ends with status 58h, one whose address was
-/// not acknowledged with 48h, and both are [`Nack`](Reason::Nack). A job's [`Answer`](crate::Answer)
-/// tells.
+/// It does not tell whether a job is done: a read that is ends with status 58h, one whose address was
+/// not acknowledged with 48h, and both are [`Nack`](Reason::Nack); a write has
+/// [`CountReached`](Reason::CountReached) at 18h, before any data byte, as it has at 28h. A job's
+/// [`Answer`](crate::Answer) tells.
 #[derive(Clone, Copy, Debug, PartialEq, Eq, Hash)]
 pub enum Reason {
     /// None yet: the controller is fresh, or its last status but F8h was 08h, 10h, 60h, A8h or D0h,
@@ -54,11 +55,11 @@ impl fmt::Display for Reason {
     fn fmt(&self, f: &mut fmt::Formatter<'_>) -> fmt::Result {
         f.write_str(match self {
             Reason::NoneYet => "none yet",
-            Reason::CountReached => "the count was reached",
-            Reason::Nack => "a byte was not acknowledged",
-            Reason::Outside => "another's START or STOP ended a slave reception",
-            Reason::ArbitrationLost => "arbitration was lost",
-            Reason::Fault => "bus fault",
+            Reason::CountReached => "count reached",
+            Reason::Nack => "NACK",
+            Reason::Outside => "outside START or STOP",
+            Reason::ArbitrationLost => "arbitration lost",
+            Reason::Fault => "fault",
             Reason::Reset => "reset",
         })
     }

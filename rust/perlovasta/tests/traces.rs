@@ -149,6 +149,9 @@ fn reasons() {
                 .iter()
                 .all(|entry| entry.reason == reason)
         );
+        let armed = last(&[&groups[..], &set(5, 0xA5)].concat());
+        assert_eq!((armed.pointer, armed.armed), (5, true));
+        assert_eq!(armed.reason, reason);
     }
 }
 

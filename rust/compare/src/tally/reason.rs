@@ -1,15 +1,13 @@
 //! Why a move ended: what set the reason, and that all else kept it.
 
 use super::Tally;
-
-/// The number of none yet.
-const NONE_YET: u8 = 0;
+use perlovasta::Reason;
 
 impl Tally {
     /// Counts the reason after a trace's first group. No group gives a status there, so none yet is
     /// what the fresh controller had.
     pub(super) fn count_first_reason(&mut self, reason: u8) {
-        self.reason_fresh += u64::from(reason == NONE_YET);
+        self.reason_fresh += u64::from(reason == Reason::NoneYet.number());
     }
 
     /// Counts the reason after an accepted group: `set` by a new status or a reset, else kept.
