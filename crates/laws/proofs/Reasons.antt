@@ -31,7 +31,7 @@ use Rattle.controller.specs.I2ccon.{controlled, enabled, writeFlags, writeContr
 use Rattle.controller.specs.Record.{interrupts}
 use Rattle.controller.specs.Registers.{wrote, writePointer, readData, writeData, writeAtPointer}
 use Rattle.controller.specs.Reply.{Outcome, refuses, accepts, waitsFor, interruptsAt, changesStatus}
-use Rattle.controller.specs.Reset.{resetWith, reset, completesReset, writePreset}
+use Rattle.controller.specs.Reset.{resetWith, reset, writePreset}
 use Rattle.controller.specs.Setters.{withTurn}
 use Rattle.controller.specs.Transfer.{dataOut, byteOut, received, dataIn, slaveIn, byteIn}
 use Rattle.controller.specs.declared.record.Controller.{Controller}
