@@ -1,5 +1,4 @@
 -- Two runs of one job over twins give the same: the bytes that events 6 and 8 read are the job's own in both. Assumes nothing.
-use mathlib.Core.Bool.{true, false, true≢false}
 use mathlib.Core.List.{List, [], _∷_}
 use mathlib.Core.Logic.{inl, inr}
 use mathlib.Core.Path.{_≡_, sym, ap, _∙_}
@@ -19,8 +18,8 @@ use Rattle.notation.specs.Choice.{if_then_else_, among}
 use Rattle.noninterference.proofs.Blind.{Reading}
 use Rattle.noninterference.proofs.Twin.{Twin, Same}
 use Rattle.noninterference.proofs.TwoRuns.{RunSame, Kept, run-same}
-use Rattle.runs.proofs.Events.{stepped}
-use Rattle.runs.proofs.Invariant.{In, jobTurns, below-count, carriedAfter, sentAfter, Good, Stepped, ended, going}
+use Rattle.runs.proofs.Events.{lasting}
+use Rattle.runs.proofs.Invariant.{In, jobTurns, below-count, carriedAfter, sentAfter, Good}
 use Rattle.runs.proofs.Lines.{JobLines}
 use Rattle.runs.proofs.Sending.{byte-count}
 use Rattle.service.proofs.Formed.{Formed}
@@ -65,12 +64,6 @@ module _ (table : Table) {room places : ℕ} {job : Job} (payload : List ℕ) (f
           ap (λ (l : List ℕ). getD l (c .moved) 0) (g .sending a .2 ∙ sym (g′ .sending (along (send ∷ []) a) .2)) ∙
           getD-take (job .n) buffer′ (c .moved) 0 low ∙ ap (λ (i : ℕ). getD buffer′ i 0) (sym k)
 
-  -- a job that is not over goes on by the invariant
-  goes-on : {before : List ℕ} {sent event argument : ℕ} {q : Progress} → q .over ≡ false → Stepped job payload before sent event argument q →
-      Good job payload (carriedAfter event argument before) (sentAfter event sent) q
-  goes-on o (ended o′ c b) = absurd (true≢false (sym o′ ∙ o))
-  goes-on o (going k g) = g
-
   -- somewhere in the job
   record Somewhere (p : Progress) : Type 0 where
     before : List ℕ
@@ -82,7 +75,7 @@ module _ (table : Table) {room places : ℕ} {job : Job} (payload : List ℕ) (f
     keeps = λ p event argument h ok o. record {
       before = carriedAfter event argument (h .before);
       sent = sentAfter event (h .sent);
-      good = goes-on o (stepped table payload form lines (h .good) event argument ok);
+      good = lasting table payload form lines (h .good) event argument ok o;
     };
     reading = λ p p′ h h′ t. reads-own (h .good) (h′ .good) t;
   }

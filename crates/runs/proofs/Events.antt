@@ -1,7 +1,7 @@
 -- Every event keeps the invariant of a job, or ends the job, by any table that has a job's lines. Assumes nothing.
-use mathlib.Core.Bool.{true, false}
+use mathlib.Core.Bool.{true, false, true≢false}
 use mathlib.Core.List.{List, [], _∷_}
-use mathlib.Core.Path.{_≡_, refl, sym, subst}
+use mathlib.Core.Path.{_≡_, refl, sym, subst, _∙_}
 use Prim.Native.Nat.{ℕ, suc, _≤_}
 use native.Mathlib.Omega.{arith}
 use borrow.Author.Tests.{eqb-true, eqb-false, ltb-false, eq-eqb}
@@ -17,7 +17,7 @@ use Rattle.driver.specs.Run.{taking}
 use Rattle.laws.proofs.Soundness.{event-stays-sound}
 use Rattle.notation.proofs.Cases.{or-left-off, or-right-off, split}
 use Rattle.runs.proofs.Ends.{reset-pin, own-stop, data-lost, address-lost, data-held, clock-held}
-use Rattle.runs.proofs.Invariant.{Good, Stepped}
+use Rattle.runs.proofs.Invariant.{carriedAfter, sentAfter, Good, Stepped, ended, going}
 use Rattle.runs.proofs.Lines.{JobLines}
 use Rattle.runs.proofs.Receiving.{byte-in}
 use Rattle.runs.proofs.Sending.{direction, address-out, data-out}
@@ -95,3 +95,14 @@ module _ (table : Table) {room places : ℕ} {job : Job} (payload : List ℕ) (f
       Stepped job payload carried sent event argument (serve table event (taking p (eventOf (p .controller) event argument .next)))
   stepped event argument e =
       event-step event argument .step (event-stays-sound (p .controller) event argument (g .whole .sound)) (eqb-true _ _ e)
+
+  -- and where the job is not over it goes on by the invariant
+  pub lasting : (event argument : ℕ) → eqb (eventOf (p .controller) event argument .refused) 0 ≡ true →
+      let q = serve table event (taking p (eventOf (p .controller) event argument .next)) in
+      q .over ≡ false → Good job payload (carriedAfter event argument carried) (sentAfter event sent) q
+  lasting event argument e = goes-on (stepped event argument e)
+    where
+      goes-on : {q : Progress} → Stepped job payload carried sent event argument q → q .over ≡ false →
+          Good job payload (carriedAfter event argument carried) (sentAfter event sent) q
+      goes-on (ended o′ c b) o = absurd (true≢false (sym o′ ∙ o))
+      goes-on (going k g) o = g

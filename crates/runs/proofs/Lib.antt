@@ -16,3 +16,5 @@ pub mod HandsUpSoMany
 pub mod OneByteEach
 pub mod LostJobs
 pub mod NoneBegins
+pub mod ComesFrom
+pub mod ReasonLeft

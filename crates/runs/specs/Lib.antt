@@ -1,2 +1,3 @@
 -- Laws of one run: what they say.
 pub mod OneRun
+pub mod ReasonLeft

@@ -1,0 +1,64 @@
+-- From which turns of a job an event leads to a status, for the statuses that the driver has work for. Assumes nothing.
+use mathlib.Core.Bool.{Bool, true, false, cond, true≢false}
+use mathlib.Core.List.{List, [], _∷_}
+use mathlib.Core.Path.{_≡_, refl, sym, ap, subst, _∙_}
+use Prim.Native.Nat.{ℕ}
+use lib.Dec.{T, eqb}
+use Rattle.address.specs.declared.number.Direction.the-variants.{Write, Read}
+use Rattle.address.specs.declared.number.Direction.{Direction}
+use Rattle.control.proofs.Turning.{status-idle}
+use Rattle.control.specs.Turn.{host, address, send, receive, statusOf}
+use Rattle.controller.specs.Condition.{ownStart, otherStart, otherStop, ownStop, addressed, addressByte}
+use Rattle.controller.specs.Condition.{outbid, addressLost, dataLost, illegalEdge, dataHeld, clockHeld, idle}
+use Rattle.controller.specs.Event.{eventSound, eventOf}
+use Rattle.controller.specs.Reply.{Outcome, refuses, accepts, waitsFor, interruptsAt, gives, changesStatus}
+use Rattle.controller.specs.Reset.{resetWith}
+use Rattle.controller.specs.Transfer.{addressStatus, dataOut, byteOut, received, dataIn, byteIn}
+use Rattle.notation.proofs.Among.{has, every, same, among-has, apart, within}
+use Rattle.notation.proofs.Cases.{split}
+use Rattle.notation.specs.Choice.{if_then_else_, _and_, among}
+use Rattle.runs.proofs.Invariant.{In, jobTurns, earlyTurns, Good}
+use Rattle.runs.proofs.Step.{here, no-match}
+use Rattle.service.specs.declared.job.Job.{Job}
+use Rattle.service.specs.declared.progress.Progress.{Progress}
+
+-- the turns of a job from which an event can lead to a status: to 08h, 18h and 40h only from those in which nothing was sent
+abbrev pub from : ℕ → List ℕ
+from s = cond (has (0x08 ∷ 0x18 ∷ 0x40 ∷ []) s) earlyTurns (cond (has (0x28 ∷ 0x30 ∷ []) s) (send ∷ []) (cond (eqb s 0x58) (receive ∷ []) jobTurns))
+
+module _ {job : Job} {payload carried : List ℕ} {sent : ℕ} {p : Progress} (g : Good job payload carried sent p) (number : ℕ) where
+  -- The status that an outcome shows comes from such a turn; 20h and 48h come by event 6.
+  pub record Comes (o : Outcome) : Type 0 where
+    pub turn : In p (from (statusOf (o .next .turn)))
+    pub six : among (statusOf (o .next .turn)) (0x20 ∷ 0x48 ∷ []) ≡ true → eqb number 6 ≡ true
+
+  comes : (o : Outcome) (ks : List ℕ) → In p ks → T (every (has (from (statusOf (o .next .turn)))) ks) →
+      has (0x20 ∷ 0x48 ∷ []) (statusOf (o .next .turn)) ≡ false → Comes o
+  comes o ks t w n = record { turn = within _ ks _ w t; six = λ e. absurd (true≢false (sym e ∙ among-has _ _ ∙ n)) }
+
+  -- no status is given; the turn is none of a job's; a choice; a test of two
+  quiet : (o : Outcome) → statusOf (o .next .turn) ≡ 0xF8 → Comes o
+  quiet o e = comes o jobTurns (g .turn) (subst (λ s. T (every (has (from s)) jobTurns)) (sym e) tt) (ap (has (0x20 ∷ 0x48 ∷ [])) e)
+
+  not-here : (o : Outcome) (ks : List ℕ) → In p ks → T (every (λ k. same (has ks k) false) jobTurns) → Comes o
+  not-here o ks t n = absurd (here g ks n t)
+
+  chosen : (b : Bool) (x y : Outcome) → (b ≡ true → Comes x) → (b ≡ false → Comes y) → Comes (if b then x else y)
+  chosen b x y f h = split Comes b x y f h
+
+  both : (a b : Bool) (x y : Outcome) → Comes (if a then (if b then x else y) else y) → Comes (if a and b then x else y)
+  unfolding _and_ if_then_else_
+  both true b x y h = h
+  both false b x y h = h
+
+  address-out : (d : Direction) (nack v : ℕ) → In p (address ∷ []) → eqb number 6 ≡ true → Comes (gives (p .controller) (addressStatus d nack) v)
+  unfolding addressStatus interruptsAt accepts statusOf
+  address-out Write k v t n = split (λ s. Comes (gives (p .controller) s v)) _ _ _ (λ _. record { turn = g .turn; six = λ _. n }) (λ _. comes _ _ t tt refl)
+  address-out Read k v t n = split (λ s. Comes (gives (p .controller) s v)) _ _ _ (λ _. record { turn = g .turn; six = λ _. n }) (λ _. comes _ _ t tt refl)
+
+  pub event-comes : (argument : ℕ) → Comes (eventOf (p .controller) number argument)
+  unfolding eventOf eventSound ownStart otherStart otherStop ownStop addressByte addressed addressLost outbid dataLost illegalEdge dataHeld clockHeld
+      idle byteOut dataOut byteIn dataIn received refuses accepts waitsFor interruptsAt changesStatus resetWith statusOf
+  event-comes argument =
+      let now = status-idle (p .controller .turn) (apart _ jobTurns (host ∷ []) tt (g .turn)) in
+      rw (no-match g argument) (search (both, chosen, quiet, address-out, comes, not-here, now, g .turn, tt) depth 40 fits 30000)
