@@ -24,23 +24,24 @@
 #define PERLOVASTA_GROUP 3u   /* bytes of a trace for each access or event */
 #define PERLOVASTA_ENTRY 8u   /* bytes of a log for each access or event */
 
-/* What a log says of group k, counted from 0: why a move ended, one of the
+/* What a log says of group k, counted from 0 and below the number of groups,
+ * once perlovasta_trace has returned true: why a move ended, one of the
  * numbers below; the pointer, 0 to 7; 1 if the software reset is armed, else
- * 0. */
+ * 0. (PERLOVASTA_BYTE_6 is for these three.) */
 #define PERLOVASTA_BYTE_6(log, k) ((log)[(size_t)(k) * PERLOVASTA_ENTRY + 6])
 #define PERLOVASTA_REASON(log, k) ((PERLOVASTA_BYTE_6(log, k) >> 4) & 7)
 #define PERLOVASTA_POINTER(log, k) (PERLOVASTA_BYTE_6(log, k) & 15)
 #define PERLOVASTA_ARMED(log, k) ((PERLOVASTA_BYTE_6(log, k) >> 7) & 1)
 
-/* Why a move ended. None of these says that a job is done. */
+/* Why a move ended. These are no answers of a job, and 0 is not "done". */
 enum perlovasta_reason {
-    PERLOVASTA_NONE_YET = 0,
-    PERLOVASTA_COUNT_REACHED = 1,
-    PERLOVASTA_NACK = 2,
-    PERLOVASTA_OUTSIDE = 3,
-    PERLOVASTA_ARBITRATION_LOST = 4,
-    PERLOVASTA_FAULT = 5,
-    PERLOVASTA_RESET = 6
+    PERLOVASTA_REASON_NONE_YET = 0,
+    PERLOVASTA_REASON_COUNT_REACHED = 1,
+    PERLOVASTA_REASON_NACK = 2,
+    PERLOVASTA_REASON_OUTSIDE = 3,
+    PERLOVASTA_REASON_ARBITRATION_LOST = 4,
+    PERLOVASTA_REASON_FAULT = 5,
+    PERLOVASTA_REASON_RESET = 6
 };
 
 #ifdef __cplusplus
@@ -118,9 +119,9 @@ bool perlovasta_job(uint8_t kind, uint8_t address, uint8_t n,
  *
  * Why a move ended: set by each new status but F8h and by a reset, and kept by
  * everything else, so while a data move goes on it is that of the status
- * before. It does not tell whether a job is done: a read that is ends with 58h,
- * one whose address was not acknowledged with 48h, and both are 2; a write has
- * 1 at 18h, before any data byte, as it has at 28h. A job's answer tells.
+ * before. It does not tell whether a job is done: a read that is done ends with
+ * 58h, one whose address was not acknowledged with 48h, and both are 2; a write
+ * has 1 at 18h, before any data byte, as it has at 28h. A job's answer tells.
  *   0  none yet: fresh, or set by 08h, 10h, 60h, A8h, D0h
  *   1  count reached: 28h, 50h, 80h, B8h, C8h, E0h, and 18h and 40h, where no
  *      data byte has moved yet

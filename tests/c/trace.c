@@ -30,8 +30,8 @@ int main(void)
         puts("the log of six groups: not what is expected");
         return 1;
     }
-    if (PERLOVASTA_REASON(log, 2) != PERLOVASTA_FAULT || PERLOVASTA_POINTER(log, 2) != 0 || PERLOVASTA_ARMED(log, 2) != 0 ||
-        PERLOVASTA_REASON(log, 5) != PERLOVASTA_RESET || PERLOVASTA_POINTER(log, 5) != 5 || PERLOVASTA_ARMED(log, 5) != 1) {
+    if (PERLOVASTA_REASON(log, 2) != PERLOVASTA_REASON_FAULT || PERLOVASTA_POINTER(log, 2) != 0 || PERLOVASTA_ARMED(log, 2) != 0 ||
+        PERLOVASTA_REASON(log, 5) != PERLOVASTA_REASON_RESET || PERLOVASTA_POINTER(log, 5) != 5 || PERLOVASTA_ARMED(log, 5) != 1) {
         puts("reason, pointer or armed of a group: not what is expected");
         return 1;
     }

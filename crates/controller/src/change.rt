@@ -16,7 +16,7 @@ ghost use Rattle.controller.specs.Setters.{withHand, withPointer, withAr
 ghost use Rattle.controller.specs.Transfer.{counted};
 
 impl Controller {
-    // Another turn and reason. An enum in a record cannot be assigned, so the record is made anew, and here alone.
+    // Another turn and reason. An enum in a record cannot be assigned, so the record is made anew; every change of either but a reset goes by this.
     fn with_turn_and_reason(self, turn: Turn, reason: Reason) -> Controller
         ensures { λ r. ⌜ r ≡ withReason (withTurn self turn) reason ⌝ }
     {

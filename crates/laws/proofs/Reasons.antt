@@ -23,7 +23,7 @@ use Rattle.control.specs.declared.turn.Turn.the-variants.{Off, Host}
 use Rattle.control.specs.declared.turn.Turn.{Turn}
 use Rattle.control.specs.declared.writing.Response.the-variants.{Next, Unlisted}
 use Rattle.control.specs.declared.writing.Response.{Response}
-use Rattle.controller.specs.Access.{readSound, readOf, writeSound, writeOf}
+use Rattle.controller.specs.Access.{indirectAt, readSound, readOf, writeSound, writeOf}
 use Rattle.controller.specs.Condition.{ownStart, otherStart, otherStop, ownStop, addressed, addressByte}
 use Rattle.controller.specs.Condition.{outbid, addressLost, dataLost, illegalEdge, dataHeld, clockHeld, idle}
 use Rattle.controller.specs.Event.{eventSound, eventOf}
@@ -188,7 +188,7 @@ enabling c k (Next t) resets e f = choose c resets false _ _ _ (λ _. refused c 
     at-38h false a = leads c k t resets (subst (WriteLeads _) e (response-clears (c .turn) k) .clears a) f
 
 write-follows : (c : Controller) (register value : ℕ) → Follows c (resetsBySoftware c register value) false (writeOf c register value)
-unfolding writeOf writeSound writePointer writeData writeAtPointer writePreset writeControl writeFlags
+unfolding writeOf writeSound indirectAt writePointer writeData writeAtPointer writePreset writeControl writeFlags
 write-follows c register value = search (enabling, off-quiet .0, accesses) depth 20
 
 read-follows : (c : Controller) (register : ℕ) → Follows c false false (readOf c register)

@@ -80,7 +80,7 @@ module _ (c : Controller) (edge : Edge) (s : sound (withTurn c (Host 0x38 edge))
   disables value e = rw (s, e) (written Off _ refl)
 
   control-turn : (value : ℕ) → TurnIs (turnAfterWriteAt38h d 3 value) (writeOf d 3 value)
-  unfolding _and_ if_then_else_
+  unfolding indirectAt _and_ if_then_else_
   control-turn value = by-ensio (flagsOf value .ensio) refl
     where
       by-ensio : (b : Bool) → flagsOf value .ensio ≡ b → TurnIs (turnAfterWriteAt38h d 3 value) (writeOf d 3 value)
@@ -115,7 +115,7 @@ module _ (c : Controller) (edge : Edge) (s : sound (withTurn c (Host 0x38 edge))
       (λ e. refused _ d 10 refl))
 
   write-turn : (register value : ℕ) → TurnIs (turnAfterWriteAt38h d register value) (writeOf d register value)
-  unfolding if_then_else_ _and_
+  unfolding indirectAt if_then_else_ _and_
   write-turn register value = by-register (eqb register 2) (eqb register 3) refl refl
     where
       by-register : (two three : Bool) → eqb register 2 ≡ two → eqb register 3 ≡ three →

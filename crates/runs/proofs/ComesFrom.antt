@@ -23,22 +23,22 @@ use Rattle.service.specs.declared.job.Job.{Job}
 use Rattle.service.specs.declared.progress.Progress.{Progress}
 
 -- the turns of a job from which an event can lead to a status: to 08h, 18h and 40h only from those in which nothing was sent
-abbrev pub from : ℕ → List ℕ
-from s = cond (has (0x08 ∷ 0x18 ∷ 0x40 ∷ []) s) earlyTurns (cond (has (0x28 ∷ 0x30 ∷ []) s) (send ∷ []) (cond (eqb s 0x58) (receive ∷ []) jobTurns))
+abbrev pub turnsBefore : ℕ → List ℕ
+turnsBefore s = cond (has (0x08 ∷ 0x18 ∷ 0x40 ∷ []) s) earlyTurns (cond (has (0x28 ∷ 0x30 ∷ []) s) (send ∷ []) (cond (eqb s 0x58) (receive ∷ []) jobTurns))
 
 module _ {job : Job} {payload carried : List ℕ} {sent : ℕ} {p : Progress} (g : Good job payload carried sent p) (number : ℕ) where
   -- The status that an outcome shows comes from such a turn; 20h and 48h come by event 6.
   pub record Comes (o : Outcome) : Type 0 where
-    pub turn : In p (from (statusOf (o .next .turn)))
+    pub turn : In p (turnsBefore (statusOf (o .next .turn)))
     pub six : among (statusOf (o .next .turn)) (0x20 ∷ 0x48 ∷ []) ≡ true → eqb number 6 ≡ true
 
-  comes : (o : Outcome) (ks : List ℕ) → In p ks → T (every (has (from (statusOf (o .next .turn)))) ks) →
+  comes : (o : Outcome) (ks : List ℕ) → In p ks → T (every (has (turnsBefore (statusOf (o .next .turn)))) ks) →
       has (0x20 ∷ 0x48 ∷ []) (statusOf (o .next .turn)) ≡ false → Comes o
   comes o ks t w n = record { turn = within _ ks _ w t; six = λ e. absurd (true≢false (sym e ∙ among-has _ _ ∙ n)) }
 
   -- no status is given; the turn is none of a job's; a choice; a test of two
   quiet : (o : Outcome) → statusOf (o .next .turn) ≡ 0xF8 → Comes o
-  quiet o e = comes o jobTurns (g .turn) (subst (λ s. T (every (has (from s)) jobTurns)) (sym e) tt) (ap (has (0x20 ∷ 0x48 ∷ [])) e)
+  quiet o e = comes o jobTurns (g .turn) (subst (λ s. T (every (has (turnsBefore s)) jobTurns)) (sym e) tt) (ap (has (0x20 ∷ 0x48 ∷ [])) e)
 
   not-here : (o : Outcome) (ks : List ℕ) → In p ks → T (every (λ k. same (has ks k) false) jobTurns) → Comes o
   not-here o ks t n = absurd (here g ks n t)

@@ -1,5 +1,5 @@
 -- The reason that a job's end leaves: the status at which the end is noted sets it, and nothing but another end changes it, since the statuses at which a
--- job goes on come before a byte was sent. Assumes nothing.
+-- job goes on (08h, 18h, 40h) come turnsBefore turns in which no byte was sent yet. Assumes nothing.
 use mathlib.Core.Bool.{Bool, true, false, true≢false}
 use mathlib.Core.List.{List, [], _∷_}
 use mathlib.Core.Logic.{⊎-elim}
@@ -14,6 +14,7 @@ use Rattle.control.proofs.Turning.{status-idle}
 use Rattle.control.specs.Reason.{reasonOf}
 use Rattle.control.specs.Turn.{faults, host, stopping, kind, statusOf}
 use Rattle.control.specs.declared.reason.Reason.the-variants.{Reset}
+use Rattle.controller.specs.Access.{indirectAt}
 use Rattle.controller.specs.Condition.{ownStop}
 use Rattle.controller.specs.Event.{eventSound, eventOf, badArgument}
 use Rattle.controller.specs.Record.{interrupts, sound}
@@ -27,7 +28,7 @@ use Rattle.notation.proofs.Among.{has, among-has, one-of, apart}
 use Rattle.notation.proofs.Cases.{if-true, if-false, and-no-left, split}
 use Rattle.notation.specs.Choice.{if_then_else_, _and_, _or_, among}
 use Rattle.runs.proofs.Begins.{begun}
-use Rattle.runs.proofs.ComesFrom.{from, event-comes}
+use Rattle.runs.proofs.ComesFrom.{turnsBefore, event-comes}
 use Rattle.runs.proofs.Events.{lasting}
 use Rattle.runs.proofs.Invariant.{In, jobTurns, earlyTurns, sentAfter, Good}
 use Rattle.runs.proofs.Lines.{dataWork, job-lines}
@@ -51,8 +52,9 @@ stop-keeps c argument =
     (λ _. split P (sound c) _ _ (λ _. split P (among (kind (c .turn)) (stopping ∷ [])) _ _ (λ _. refl) (λ _. refl)) (λ _. refl))
 
 put-keeps : (c : Controller) (register value : ℕ) → eqb register 2 ≡ false → put c register value .reason ≡ c .reason
-unfolding put
-put-keeps c k value e = reasons-follow c .write k value ∙ split (λ r. r ≡ c .reason) _ _ _ (λ _. refl) (λ _. if-false _ _ _ (and-no-left _ _ e))
+unfolding put indirectAt
+put-keeps c k value e =
+    reasons-follow c .write k value ∙ split (λ r. r ≡ c .reason) _ _ _ (λ _. refl) (λ _. if-false _ _ _ (and-no-left _ _ (and-no-left _ _ e)))
 
 fetch-keeps : (more i : ℕ) (p : Progress) → fetch more i p .controller .reason ≡ p .controller .reason
 unfolding fetch fetchOne
@@ -80,19 +82,19 @@ module _ {job : Job} {payload carried : List ℕ} {sent : ℕ} {p : Progress} (g
   next = eventOf (p .controller) number argument .next
 
   -- so it is after the pair; if the job lasts, its turn is one of a job's
-  record Fair (q : Progress) : Type 0 where
-    fair : (q .over ≡ false → In q jobTurns) → among (numberOf (q .ending)) endAnswers ≡ true →
+  record NotedAfter (q : Progress) : Type 0 where
+    noted : (q .over ≡ false → In q jobTurns) → among (numberOf (q .ending)) endAnswers ≡ true →
         (q .over ≡ false → sentAfter number sent ≡ 0 → ⊥) × Left job (numberOf (q .ending)) (q .controller)
 
   -- no end was noted; one is noted now; the job is over
-  early : (q : Progress) → q .ending ≡ p .ending → In p earlyTurns → Fair q
-  early q k t = record { fair = λ _ e. absurd (n (subst (λ x. among (numberOf x) endAnswers ≡ true) k e) .0 (g .early t .1)) }
+  early : (q : Progress) → q .ending ≡ p .ending → In p earlyTurns → NotedAfter q
+  early q k t = record { noted = λ _ e. absurd (n (subst (λ x. among (numberOf x) endAnswers ≡ true) k e) .0 (g .early t .1)) }
 
-  stops : (q : Progress) → (eqb number 6 ≡ false → sent ≡ 0 → ⊥) → Left job (numberOf (q .ending)) (q .controller) → Fair q
-  stops q l r = record { fair = λ _ _. (λ _. sent-some (eqb number 6) sent l, r) }
+  stops : (q : Progress) → (eqb number 6 ≡ false → sent ≡ 0 → ⊥) → Left job (numberOf (q .ending)) (q .controller) → NotedAfter q
+  stops q l r = record { noted = λ _ _. (λ _. sent-some (eqb number 6) sent l, r) }
 
-  ends : (q : Progress) → q .over ≡ true → (among (numberOf (q .ending)) endAnswers ≡ true → Left job (numberOf (q .ending)) (q .controller)) → Fair q
-  ends q o r = record { fair = λ _ e. (λ l. absurd (true≢false (sym o ∙ l)), r e) }
+  ends : (q : Progress) → q .over ≡ true → (among (numberOf (q .ending)) endAnswers ≡ true → Left job (numberOf (q .ending)) (q .controller)) → NotedAfter q
+  ends q o r = record { noted = λ _ e. (λ l. absurd (true≢false (sym o ∙ l)), r e) }
 
   -- what the event makes of the reason
   reason : next .reason ≡ (if eqb number 14 then Reset else if interrupts next then reasonOf (statusOf (next .turn)) else p .controller .reason)
@@ -103,18 +105,18 @@ module _ {job : Job} {payload carried : List ℕ} {sent : ℕ} {p : Progress} (g
     in-host : among (kind (next .turn)) (host ∷ []) ≡ false → ⊥
     in-host i = true≢false (sym (ap (λ (k : ℕ). eqb k 0xF8) (status-idle (next .turn) i)) ∙ f)
 
-    at : (k : ℕ) → statusOf (next .turn) ≡ k → In p (from k) × (next .reason ≡ reasonOf k)
+    at : (k : ℕ) → statusOf (next .turn) ≡ k → In p (turnsBefore k) × (next .reason ≡ reasonOf k)
     at k e =
         let given = reason ∙ if-false _ _ _ x ∙ split (λ r. r ≡ reasonOf (statusOf (next .turn))) _ _ _ (λ _. refl) (λ i. absurd (in-host i)) in
-        subst (λ (k : ℕ). In p (from k) × (next .reason ≡ reasonOf k)) e (event-comes g number argument .turn, given)
+        subst (λ (k : ℕ). In p (turnsBefore k) × (next .reason ≡ reasonOf k)) e (event-comes g number argument .turn, given)
 
     -- the work, line by line of the table
-    works : (count : ℕ) → Fair (performs (jobTable job payload (statusOf (next .turn)) count) (taking p next))
+    works : (count : ℕ) → NotedAfter (performs (jobTable job payload (statusOf (next .turn)) count) (taking p next))
     unfolding jobTable performs doesAll does follows taking reasonOf reasonLeft among if_then_else_
     works count =
         let s = statusOf (next .turn) in
-        let P : Work → Type 0 = λ w. Fair (performs w (taking p next)) in
-        let is : (k : ℕ) → eqb s k ≡ true → In p (from k) × (next .reason ≡ reasonOf k) = λ k t. at k (eqb-true s k t) in
+        let P : Work → Type 0 = λ w. NotedAfter (performs w (taking p next)) in
+        let is : (k : ℕ) → eqb s k ≡ true → In p (turnsBefore k) × (next .reason ≡ reasonOf k) = λ k t. at k (eqb-true s k t) in
         split P (eqb s 0x08) _ _ (λ t. early _ refl (is 0x08 t .0))
         (λ _. split P (eqb s 0x18) _ _ (λ t. early _ (acts-leave (dataWork (take (job .n) payload) .acts) (taking p next) .ending) (is 0x18 t .0))
         (λ _. split P (eqb s 0x40) _ _ (λ t. early _ refl (is 0x40 t .0))
@@ -129,22 +131,22 @@ module _ {job : Job} {payload carried : List ℕ} {sent : ℕ} {p : Progress} (g
         (λ _. split P (eqb s 0x38) _ _ (λ t. ends _ refl (λ _. put-keeps _ 3 0x40 refl ∙ is 0x38 t .1))
         (λ _. split P (among s faults) _ _
         (λ t. ends _ refl (λ _. ⊎-elim (λ e. at 0x00 e .1) (⊎-elim (λ e. at 0x70 e .1) (λ e. at 0x78 e .1)) (one-of faults s t)))
-        (λ _. record { fair = λ h. absurd (in-host (apart (kind (next .turn)) jobTurns (host ∷ []) tt (h (g .whole .lasts)))) })))))))))
+        (λ _. record { noted = λ h. absurd (in-host (apart (kind (next .turn)) jobTurns (host ∷ []) tt (h (g .whole .lasts)))) })))))))))
 
   -- after a pair
-  serves : Fair (serve (jobTable job payload) number (taking p next))
+  serves : NotedAfter (serve (jobTable job payload) number (taking p next))
   unfolding serve follows reads taking reasonLeft among if_then_else_
   serves =
       let e = status-reads next (event-stays-sound (p .controller) number argument (g .whole .sound)) in
-      split Fair (eqb number 14) _ _ (λ x. ends _ refl (λ _. reason ∙ if-true _ _ _ x))
-      (λ x. split Fair (eqb number 4) _ _ (λ y. ends _ refl (λ e.
+      split NotedAfter (eqb number 14) _ _ (λ x. ends _ refl (λ _. reason ∙ if-true _ _ _ x))
+      (λ x. split NotedAfter (eqb number 4) _ _ (λ y. ends _ refl (λ e.
       ap (λ (k : ℕ). eventOf (p .controller) k argument .next .reason) (eqb-true number 4 y) ∙ stop-keeps (p .controller) argument ∙ n e .1))
-      (λ _. split Fair (eqb (reads next 0) 0xF8) _ _
+      (λ _. split NotedAfter (eqb (reads next 0) 0xF8) _ _
       (λ _. record {
-        fair = λ h e. let quiet = apart (kind (next .turn)) jobTurns (host ∷ []) tt (h (g .whole .lasts)) in
+        noted = λ h e. let quiet = apart (kind (next .turn)) jobTurns (host ∷ []) tt (h (g .whole .lasts)) in
             (λ _. sent-some (eqb number 6) sent (λ _. n e .0), reason ∙ if-false _ _ _ x ∙ if-false (interrupts next) _ _ quiet ∙ n e .1);
       })
-      (λ f. subst (λ (status : ℕ). Fair (performs (jobTable job payload status (p .count)) (taking p next))) (sym e)
+      (λ f. subst (λ (status : ℕ). NotedAfter (performs (jobTable job payload status (p .count)) (taking p next))) (sym e)
       (works x (ap (λ (status : ℕ). eqb status 0xF8) (sym e) ∙ f) (p .count)))))
 
 module _ {room places : ℕ} {job : Job} (payload : List ℕ) (form : Formed job (length payload) room places) where
@@ -158,8 +160,8 @@ module _ {room places : ℕ} {job : Job} (payload : List ℕ) (form : Formed job
       let P : Run → Type 0 = λ r. among (r .result .answer) endAnswers ≡ true → Left job (r .result .answer) (r .result .next) in
       split P (eqb (eventOf (p .controller) event argument .refused) 0) _ _
       (λ a. let good = lasting (jobTable job payload) payload form (job-lines job payload) g event argument a in
-      let fair = serves g n event argument (eqb-true _ _ a) .fair (λ l. good l .turn) in
-      split P (q .over) (closes q) (run (jobTable job payload) q rest) (λ _ e. fair e .1) (λ l. left-run rest (good l) (λ e. (fair e .0 l, fair e .1))))
+      let noted = serves g n event argument (eqb-true _ _ a) .noted (λ l. good l .turn) in
+      split P (q .over) (closes q) (run (jobTable job payload) q rest) (λ _ e. noted e .1) (λ l. left-run rest (good l) (λ e. (noted e .0 l, noted e .1))))
       (λ _. no-end 28 refl)
 
 pub leaves-reason : LeavesReason

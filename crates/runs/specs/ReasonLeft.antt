@@ -16,7 +16,7 @@ use Rattle.notation.specs.Choice.{if_then_else_, among}
 use Rattle.service.specs.declared.job.Job.{Job}
 
 -- The answers of a job that came to its end. (21 and 22 "leave everything as it was", by `declines` in crates/driver. 27 and 28 can come anywhere in a
--- job: the reason is that of the last status before them, or the old one if the job came to none.)
+-- job, and nothing is claimed of them here.)
 abbrev pub endAnswers : List ℕ
 endAnswers = 0 ∷ 23 ∷ 24 ∷ 25 ∷ 26 ∷ 29 ∷ []
 
@@ -25,7 +25,7 @@ abbrev pub reasonDone : Direction → Reason
 reasonDone Write = CountReached
 reasonDone Read = Nack
 
--- 23, "address NACKed (20h, 48h)"; 24, "30h"; 25, "38h"; 26, "00h, 70h, 78h"; 29, "event 14 came"
+-- 23, "address NACKed (20h, 48h)"; 24, "30h"; 25, "38h"; 26, "00h, 70h, 78h"; 29, "event 14 came", and of no other answer is this claimed
 unfoldable pub reasonLeft : Direction → ℕ → Reason
 reasonLeft direction answer =
     if eqb answer 0 then reasonDone direction
@@ -34,7 +34,7 @@ reasonLeft direction answer =
     else if eqb answer 26 then Fault
     else Reset
 
--- every job with such an answer, whatever the script and the record
+-- every job with such an answer, whatever the script and the record (its buffer is a list here, so that it has 68 places is said)
 abbrev pub LeavesReason : Type 0
 LeavesReason = (job : Job) (payload : List ℕ) (destinationLength outLength : ℕ) (script : List ℕ) (c : Controller) →
     length (c .buffer) ≡ 68 →

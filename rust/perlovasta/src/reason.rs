@@ -4,8 +4,8 @@ use std::fmt;
 
 /// Why a move ended: set by each new status but F8h and by a reset, and kept by everything else.
 ///
-/// It does not tell whether a job is done: a read that is ends with status 58h, one whose address was
-/// not acknowledged with 48h, and both are [`Nack`](Reason::Nack); a write has
+/// It does not tell whether a job is done: a read that is done ends with status 58h, one whose
+/// address was not acknowledged with 48h, and both are [`Nack`](Reason::Nack); a write has
 /// [`CountReached`](Reason::CountReached) at 18h, before any data byte, as it has at 28h. A job's
 /// [`Answer`](crate::Answer) tells.
 #[derive(Clone, Copy, Debug, PartialEq, Eq, Hash)]
