@@ -74,8 +74,8 @@ reset-done : (c : Controller) (resets event : Bool) → resets ≡ true → Foll
 unfolding accepts resetWith if_then_else_
 reset-done c resets event e = record { follows = sym (if-true _ _ _ e); agrees = λ _. reset-agrees (c .buffer) Reset }
 
-choose : (c : Controller) (resets event b : Bool) (x y : Outcome) → (b ≡ true → Follows c resets event x) → (b ≡ false → Follows c resets event y) →
-    Follows c resets event (if b then x else y)
+choose : (c : Controller) (resets event b : Bool) (x y : Outcome) → (b ≡ true → Follows c resets event x) →
+    (b ≡ false → Follows c resets event y) → Follows c resets event (if b then x else y)
 choose c resets event b x y p q = split (Follows c resets event) b x y p q
 
 -- Events. The reason is kept, and SI is 0 after it.

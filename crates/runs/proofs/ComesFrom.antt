@@ -24,7 +24,8 @@ use Rattle.service.specs.declared.progress.Progress.{Progress}
 
 -- the turns of a job from which an event can lead to a status: to 08h, 18h and 40h only from those in which nothing was sent
 abbrev pub turnsBefore : ℕ → List ℕ
-turnsBefore s = cond (has (0x08 ∷ 0x18 ∷ 0x40 ∷ []) s) earlyTurns (cond (has (0x28 ∷ 0x30 ∷ []) s) (send ∷ []) (cond (eqb s 0x58) (receive ∷ []) jobTurns))
+turnsBefore s =
+    cond (has (0x08 ∷ 0x18 ∷ 0x40 ∷ []) s) earlyTurns (cond (has (0x28 ∷ 0x30 ∷ []) s) (send ∷ []) (cond (eqb s 0x58) (receive ∷ []) jobTurns))
 
 module _ {job : Job} {payload carried : List ℕ} {sent : ℕ} {p : Progress} (g : Good job payload carried sent p) (number : ℕ) where
   -- The status that an outcome shows comes from such a turn; 20h and 48h come by event 6.

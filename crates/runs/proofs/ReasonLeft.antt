@@ -93,7 +93,8 @@ module _ {job : Job} {payload carried : List ℕ} {sent : ℕ} {p : Progress} (g
   stops : (q : Progress) → (eqb number 6 ≡ false → sent ≡ 0 → ⊥) → Left job (numberOf (q .ending)) (q .controller) → NotedAfter q
   stops q l r = record { noted = λ _ _. (λ _. sent-some (eqb number 6) sent l, r) }
 
-  ends : (q : Progress) → q .over ≡ true → (among (numberOf (q .ending)) endAnswers ≡ true → Left job (numberOf (q .ending)) (q .controller)) → NotedAfter q
+  ends : (q : Progress) → q .over ≡ true →
+      (among (numberOf (q .ending)) endAnswers ≡ true → Left job (numberOf (q .ending)) (q .controller)) → NotedAfter q
   ends q o r = record { noted = λ _ e. (λ l. absurd (true≢false (sym o ∙ l)), r e) }
 
   -- what the event makes of the reason
