@@ -1,5 +1,5 @@
 -- The reason that a job's end leaves: the status at which the end is noted sets it, and nothing but another end changes it, since the statuses at which a
--- job goes on (08h, 18h, 40h) come turnsBefore turns in which no byte was sent yet. Assumes nothing.
+-- job goes on (08h, 18h, 40h) come from turns in which no byte was sent yet. Assumes nothing.
 use mathlib.Core.Bool.{Bool, true, false, true≢false}
 use mathlib.Core.List.{List, [], _∷_}
 use mathlib.Core.Logic.{⊎-elim}
