@@ -1,0 +1,5 @@
+-- Laws of the response table.
+pub mod EveryEntry
+pub mod Numbers
+pub mod Agreement
+pub mod Columns

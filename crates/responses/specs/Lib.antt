@@ -1,0 +1,3 @@
+-- The response table, and what its engine does beside it.
+pub mod Entry
+pub mod Table
