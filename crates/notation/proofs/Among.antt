@@ -58,7 +58,7 @@ among-has x (k ∷ ks) = step (eqb x k) (among-has x ks)
     step false e = e
 
 -- every entry of a list passes a test, so one of them does
-passes : (f : ℕ → Bool) (v : Bool) (ks : List ℕ) (x : ℕ) → OneOf ks x → T (every (λ k. same (f k) v) ks) → f x ≡ v
+pub passes : (f : ℕ → Bool) (v : Bool) (ks : List ℕ) (x : ℕ) → OneOf ks x → T (every (λ k. same (f k) v) ks) → f x ≡ v
 passes f v [] x h t = absurd h
 passes f v (k ∷ []) x h t = ap f h ∙ is-same (f k) v (every-head (λ k. same (f k) v) k [] t)
 passes f v (k ∷ j ∷ ks) x (inl h) t = ap f h ∙ is-same (f k) v (every-head (λ k. same (f k) v) k (j ∷ ks) t)

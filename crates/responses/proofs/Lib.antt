@@ -3,3 +3,4 @@ pub mod EveryEntry
 pub mod Numbers
 pub mod Agreement
 pub mod Columns
+pub mod EntriesRule
