@@ -26,7 +26,7 @@ use Rattle.controller.proofs.SoundParts.{parts}
 use Rattle.controller.specs.Access.{writeOf, writeSound, barsWrite, indirectAt}
 use Rattle.controller.specs.I2ccon.{badCount, controlled, enabled, writeControl, writeFlags}
 use Rattle.controller.specs.Record.{givenStatuses, hostSound, sound}
-use Rattle.controller.specs.Reply.{Outcome, refuses}
+use Rattle.controller.specs.Reply.{refuses}
 use Rattle.controller.specs.Setters.{withTurn}
 use Rattle.controller.specs.declared.record.Controller.{Controller}
 use Rattle.notation.proofs.Among.{has, among-has, passes, one-of, without, apart}

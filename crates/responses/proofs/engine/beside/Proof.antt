@@ -1,6 +1,6 @@
 -- `beside` is `beside`: the arm's turn settles the tests of the definition.
 use mathlib.Core.List.{[], _∷_}
-use mathlib.Core.Path.{sym, _∙_}
+use mathlib.Core.Path.{_∙_}
 use borrow.Author.Needs.{needs}
 use Rattle.control.proofs.Turning.{at-turn, at-turns, except}
 use Rattle.control.specs.Turn.{off, host, free, busy, listen, kind, edgeOf}
@@ -28,4 +28,16 @@ unfolding beside afterControl
 returns-4 c = search (at-turns (except (off ∷ host ∷ free ∷ busy ∷ listen ∷ [])) (c .before .args .c .turn) (c .match .keys4), cases)
 
 pub beside-spec : {M : Type 1} → statement M
-beside-spec = tie.close (tie.spec (λ c. search needs) (λ c κs. search needs) (λ c. search needs) (λ c κs. search needs) (λ c κs. search needs) (λ c κs. search needs) returns returns-2 returns-3 returns-4)
+beside-spec =
+    tie.close
+    (tie.spec
+    (λ c. search needs)
+    (λ c κs. search needs)
+    (λ c. search needs)
+    (λ c κs. search needs)
+    (λ c κs. search needs)
+    (λ c κs. search needs)
+    returns
+    returns-2
+    returns-3
+    returns-4)

@@ -1,11 +1,9 @@
 -- `effect` is `writeOf` of I2CCON: with ENSIO 1 by the entry for the status, with ENSIO 0 beside the table.
-use mathlib.Core.Path.{ap, sym, _∙_}
-use Prim.Native.Nat.{ℕ}
+use mathlib.Core.Path.{_∙_}
 use borrow.Author.Needs.{needs}
 use Rattle.controller.specs.I2ccon.{writeFlags}
 use Rattle.notation.proofs.Cases.{cases}
-use Rattle.responses.specs.Engine.{byEntry, disabled}
-use Rattle.responses.specs.Table.{entryAt}
+use Rattle.responses.specs.Engine.{disabled}
 use Rattle.responses.proofs.EntriesRule.{writes, aligned, entries-rule}
 use Rattle.responses.proofs.engine.effect.Statement.{statement}
 use Rattle.responses.proofs.engine.effect.Tie as tie
@@ -26,7 +24,8 @@ unfolding disabled writeFlags
 returns-2 c =
     let read = c .before .before in
     let start = read .before in
-    c .disable .ensures ∙ rw (read .of-byte .ensures, writes (start .args .c) (start .args .value) (start .pre)) (search (rw (read .of-byte .ensures) at (c .before .if1 .left), cases))
+    let k = read .of-byte .ensures in
+    c .disable .ensures ∙ rw (k, writes (start .args .c) (start .args .value) (start .pre)) (search (rw k at (c .before .if1 .left), cases))
 
 pub effect-spec : {M : Type 1} → statement M
 effect-spec =

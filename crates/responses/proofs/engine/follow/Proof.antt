@@ -1,5 +1,5 @@
 -- `follow` is `byEntry`, case by case.
-use mathlib.Core.Path.{sym, _∙_}
+use mathlib.Core.Path.{_∙_}
 use borrow.Author.Needs.{needs}
 use Rattle.controller.specs.Effect.{afterControl}
 use Rattle.responses.specs.Engine.{byEntry}
@@ -27,4 +27,19 @@ unfolding byEntry
 returns-5 c = c .lead .ensures ∙ rw (c .before .before .entry2 .given .1)
 
 pub follow-spec : {M : Type 1} → statement M
-follow-spec = tie.close (tie.spec (λ c. search needs) (λ c. search needs) (λ c κs. search needs) (λ c. search needs) (λ c κs. search needs) (λ c. search needs) (λ c. search needs) (λ c κs. search needs) returns returns-2 returns-3 returns-4 returns-5)
+follow-spec =
+    tie.close
+    (tie.spec
+    (λ c. search needs)
+    (λ c. search needs)
+    (λ c κs. search needs)
+    (λ c. search needs)
+    (λ c κs. search needs)
+    (λ c. search needs)
+    (λ c. search needs)
+    (λ c κs. search needs)
+    returns
+    returns-2
+    returns-3
+    returns-4
+    returns-5)

@@ -63,7 +63,22 @@ unfolding names
 returns-14 c =
     let number = c .before .args .number in
     let rest = c .match .rest in
-    search (ne-eqb number 13 (rest .1), ne-eqb number 12 (rest .0 .1), ne-eqb number 11 (rest .0 .0 .1), ne-eqb number 10 (rest .0 .0 .0 .1), ne-eqb number 9 (rest .0 .0 .0 .0 .1), ne-eqb number 8 (rest .0 .0 .0 .0 .0 .1), ne-eqb number 7 (rest .0 .0 .0 .0 .0 .0 .1), ne-eqb number 6 (rest .0 .0 .0 .0 .0 .0 .0 .1), ne-eqb number 5 (rest .0 .0 .0 .0 .0 .0 .0 .0 .1), ne-eqb number 4 (rest .0 .0 .0 .0 .0 .0 .0 .0 .0 .1), ne-eqb number 3 (rest .0 .0 .0 .0 .0 .0 .0 .0 .0 .0 .1), ne-eqb number 2 (rest .0 .0 .0 .0 .0 .0 .0 .0 .0 .0 .0 .1), ne-eqb number 1 (rest .0 .0 .0 .0 .0 .0 .0 .0 .0 .0 .0 .0 .1), cases)
+    search (
+      ne-eqb number 13 (rest .1),
+      ne-eqb number 12 (rest .0 .1),
+      ne-eqb number 11 (rest .0 .0 .1),
+      ne-eqb number 10 (rest .0 .0 .0 .1),
+      ne-eqb number 9 (rest .0 .0 .0 .0 .1),
+      ne-eqb number 8 (rest .0 .0 .0 .0 .0 .1),
+      ne-eqb number 7 (rest .0 .0 .0 .0 .0 .0 .1),
+      ne-eqb number 6 (rest .0 .0 .0 .0 .0 .0 .0 .1),
+      ne-eqb number 5 (rest .0 .0 .0 .0 .0 .0 .0 .0 .1),
+      ne-eqb number 4 (rest .0 .0 .0 .0 .0 .0 .0 .0 .0 .1),
+      ne-eqb number 3 (rest .0 .0 .0 .0 .0 .0 .0 .0 .0 .0 .1),
+      ne-eqb number 2 (rest .0 .0 .0 .0 .0 .0 .0 .0 .0 .0 .0 .1),
+      ne-eqb number 1 (rest .0 .0 .0 .0 .0 .0 .0 .0 .0 .0 .0 .0 .1),
+      cases,
+    )
 
 pub of-number-spec : {M : Type 1} → statement M
 of-number-spec =
