@@ -1,2 +1,3 @@
 -- Laws of what is printed.
 pub mod OneMore
+pub mod Size
