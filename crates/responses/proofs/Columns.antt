@@ -1,22 +1,12 @@
--- The column of some flags is one of the sixteen, and its flags are theirs. Assumes nothing.
+-- The flags of the column of some flags are theirs. Assumes nothing.
 use mathlib.Core.Bool.{Bool, true, false}
 use mathlib.Core.Path.{_≡_, refl, ap, _∙_}
-use Prim.Native.Nat.{ℕ, _+_, _≤_, _<_}
-use native.Mathlib.Omega.{arith}
+use Prim.Native.Nat.{ℕ, _+_}
 use Rattle.control.specs.Flags.{weighs}
 use Rattle.control.specs.Writing.{respondsAt, endOr}
 use Rattle.control.specs.declared.flags.Control.{Control}
 use Rattle.notation.specs.Choice.{if_then_else_}
 use Rattle.responses.specs.Table.{columnOf, patternOf, entryAt}
-
-weighs-most : (bit : Bool) (weight : ℕ) → weighs bit weight ≤ weight
-unfolding weighs if_then_else_
-weighs-most true weight = omega arith
-weighs-most false weight = omega arith
-
-pub column-below : (k : Control) → columnOf k < 16
-unfolding columnOf
-column-below k = omega (arith, weighs-most (k .sta) 8, weighs-most (k .sto) 4, weighs-most (k .aa) 2, weighs-most (k .mode) 1)
 
 column-pattern : (sta sto aa mode : Bool) →
     patternOf (weighs sta 8 + weighs sto 4 + weighs aa 2 + weighs mode 1) ≡ record { aa = aa; ensio = true; sta = sta; sto = sto; mode = mode }

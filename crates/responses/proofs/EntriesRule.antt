@@ -9,7 +9,7 @@ use denote.Enum.Declared.{tagOf}
 use lib.Dec.{eqb}
 use types.Run.{OneOf}
 use Rattle.answer.specs.declared.Refusal.the-variants.{Locked}
-use Rattle.control.proofs.Turning.{tag-kind, status-idle}
+use Rattle.control.proofs.Turning.{at-turn, status-idle}
 use Rattle.control.proofs.turn.Turn.{the-type}
 use Rattle.control.specs.Flags.{flagsOf}
 use Rattle.control.specs.Turn.{host, wireTurns, dataTurns, faults, kind, waits, statusOf, edgeOf}
@@ -29,19 +29,19 @@ use Rattle.controller.specs.Record.{givenStatuses, hostSound, sound}
 use Rattle.controller.specs.Reply.{refuses}
 use Rattle.controller.specs.Setters.{withTurn}
 use Rattle.controller.specs.declared.record.Controller.{Controller}
-use Rattle.notation.proofs.Among.{has, among-has, passes, one-of, without, apart}
+use Rattle.notation.proofs.Among.{has, passes, one-of, without, apart}
 use Rattle.notation.proofs.Cases.{if-true, if-false, and-no-left, and-no-right, split}
 use Rattle.notation.specs.Choice.{if_then_else_, _and_, _or_, among}
-use Rattle.responses.specs.Engine.{beside, byEntry, EntriesRule}
-use Rattle.responses.specs.Table.{entryAt, entryOf}
+use Rattle.responses.specs.Engine.{besideTable, byEntry, EntriesRule}
+use Rattle.responses.specs.Table.{entryAt, asEntry}
 use Rattle.responses.specs.declared.entry.Entry.the-variants.{Beside, Refused}
 use Rattle.responses.specs.declared.entry.Entry.{Entry}
 
 -- I2CCON of a sound record: refusal 3, or the rule for the flags
-pub writes : (c : Controller) (value : ℕ) → sound c ≡ true →
+pub writes-flags : (c : Controller) (value : ℕ) → sound c ≡ true →
     writeOf c 3 value ≡ (if waits (c .turn) wireTurns then refuses c 3 else writeFlags c (flagsOf value))
 unfolding writeOf writeSound barsWrite indirectAt writeControl _and_ _or_ if_then_else_
-writes c value e = rw e
+writes-flags c value e = rw e
 
 -- BC is looked at where data is moved
 unmoved : (c : Controller) (k : Control) (t : Turn) → waits t dataTurns ≡ false → enabled c k (Next t) ≡ controlled c k t
@@ -50,7 +50,7 @@ unmoved c k t e = if-false _ _ _ (and-no-right (k .mode) _ (and-no-left _ _ e))
 
 -- the rules answer x where the bus condition is `Stop` and y where it is the record's; the entry for x does what the rules make of y
 record Meets (c : Controller) (k : Control) (x y : Response) : Type 0 where
-  same : byEntry c k (entryOf x) ≡ enabled c k y
+  same : byEntry c k (asEntry x) ≡ enabled c k y
 
 module _ {c : Controller} {k : Control} where
   choose : (b : Bool) {x y x′ y′ : Response} → (b ≡ true → Meets c k x x′) → (b ≡ false → Meets c k y y′) →
@@ -60,19 +60,17 @@ module _ {c : Controller} {k : Control} where
   choose false f g = g refl
 
   unlisted : Meets c k Unlisted Unlisted
-  unfolding byEntry entryOf enabled
+  unfolding byEntry asEntry enabled
   unlisted = record { same = refl }
 
   leads : (t : Turn) → has (host ∷ []) (tagOf the-type t) ≡ false → Meets c k (Next t) (Next t)
-  unfolding byEntry entryOf
-  leads t e = record {
-    same = ap (byEntry c k) (if-false _ _ _ (among-has (kind t) (host ∷ []) ∙ ap (has (host ∷ [])) (sym (tag-kind t)) ∙ e));
-  }
+  unfolding byEntry asEntry
+  leads t e = record { same = ap (byEntry c k) (if-false _ _ _ (at-turn _ t refl false (host ∷ []) e)) }
 
-idle : (e : Edge) → waits (afterEdge e) dataTurns ≡ false
+edge-unmoved : (e : Edge) → waits (afterEdge e) dataTurns ≡ false
 unfolding afterEdge kind among if_then_else_
-idle Stop = refl
-idle Start = refl
+edge-unmoved Stop = refl
+edge-unmoved Start = refl
 
 -- the record waits in Host, with a status and a bus condition
 module _ (c : Controller) (k : Control) (s : ℕ) (e : Edge) where
@@ -80,7 +78,7 @@ module _ (c : Controller) (k : Control) (s : ℕ) (e : Edge) where
   waiting = withTurn c (Host s e)
 
   stays : among s (0x38 ∷ []) ≡ true → Meets waiting k (Next (Host 0x38 Stop)) (Next (Host 0x38 e))
-  unfolding byEntry entryOf kind among if_then_else_
+  unfolding byEntry asEntry kind among if_then_else_
   stays h = record {
     same = ap (λ (n : ℕ). controlled waiting k (Host n e)) (one-of (0x38 ∷ []) s h) ∙ sym (unmoved waiting k (Host 0x38 e) refl);
   }
@@ -88,14 +86,14 @@ module _ (c : Controller) (k : Control) (s : ℕ) (e : Edge) where
   ended : {x y : Response} → among s (0xA0 ∷ 0xF8 ∷ []) ≡ false → among s (0xA0 ∷ []) ≡ true → Meets waiting k x y
   ended n h = absurd (true≢false (sym h ∙ without s (0xA0 ∷ []) (0xA0 ∷ 0xF8 ∷ []) tt n))
 
-  listed : among s (0xA0 ∷ 0xF8 ∷ []) ≡ false → Meets waiting k (respondsAt s Stop k) (respondsAt s e k)
+  alike : among s (0xA0 ∷ 0xF8 ∷ []) ≡ false → Meets waiting k (respondsAt s Stop k) (respondsAt s e k)
   unfolding respondsAt endOr
-  listed n = search (choose, unlisted, leads, stays, ended) depth 16
+  alike n = search (choose, unlisted, leads, stays, ended) depth 16
 
   -- A0h: among the statuses that some event gives there is no F8h
   outside : among s givenStatuses ≡ true → OneOf (0xA0 ∷ 0xF8 ∷ []) s → byEntry waiting k Beside ≡ enabled waiting k (respondsAt s e k)
-  unfolding byEntry beside respondsAt kind edgeOf among if_then_else_
-  outside g (inl a) = sym (unmoved waiting k (afterEdge e) (idle e)) ∙ ap (λ (n : ℕ). enabled waiting k (respondsAt n e k)) (sym a)
+  unfolding byEntry besideTable respondsAt kind edgeOf among if_then_else_
+  outside g (inl a) = sym (unmoved waiting k (afterEdge e) (edge-unmoved e)) ∙ ap (λ (n : ℕ). enabled waiting k (respondsAt n e k)) (sym a)
   outside g (inr a) = absurd (false≢true (rw a at g))
 
   -- the rule for the flags, where the status is no fault
@@ -114,12 +112,12 @@ module _ (c : Controller) (k : Control) (s : ℕ) (e : Edge) where
       let past : List ℕ = 0xA0 ∷ 0xF8 ∷ [] in
       split P (among s past) Beside _ (λ a. outside g (one-of past s a) ∙ sym (flagged (apart s past faults tt a) n))
       (λ a. split P (among s faults) (Refused Locked) _ locked
-      (λ f. ap (byEntry waiting k) (if-true _ _ _ g) ∙ listed a .same ∙ sym (flagged f n)))
+      (λ f. ap (byEntry waiting k) (if-true _ _ _ g) ∙ alike a .same ∙ sym (flagged f n)))
 
 -- the same in any turn: in a wire turn refusal 3, out of Host the turn kept
 ruled : (c : Controller) (k : Control) (t : Turn) → sound (withTurn c t) ≡ true → k .ensio ≡ true →
     byEntry (withTurn c t) k (entryAt (statusOf t) k) ≡ (if waits t wireTurns then refuses (withTurn c t) 3 else writeFlags (withTurn c t) k)
-unfolding byEntry entryAt beside writeFlags response hostSound statusOf kind among if_then_else_
+unfolding byEntry entryAt besideTable writeFlags response hostSound statusOf kind among if_then_else_
 ruled c k Off h n = sym (if-true (k .ensio) _ _ n ∙ unmoved (withTurn c Off) k Free refl)
 ruled c k (Host s e) h n = at-host c k s e (parts (withTurn c (Host s e)) h .host) n
 ruled c k Free h n = sym (if-true (k .ensio) _ _ n ∙ unmoved (withTurn c Free) k Free refl)
@@ -134,16 +132,16 @@ ruled c k Stopping h n = refl
 ruled c k Restarting h n = refl
 
 pub entries-rule : EntriesRule
-entries-rule c value h n = ruled c (flagsOf value) (c .turn) h n ∙ sym (writes c value h)
+entries-rule c value h n = ruled c (flagsOf value) (c .turn) h n ∙ sym (writes-flags c value h)
 
 -- the status of a sound record is a multiple of 8: the 28 that some event gives are, and F8h is
 pub aligned : (c : Controller) → sound c ≡ true → statusOf (c .turn) / 8 * 8 ≡ statusOf (c .turn)
-unfolding hostSound
+unfolding hostSound if_then_else_
 aligned c h = go (waits (c .turn) (host ∷ [])) refl (parts c h .host)
   where
     s : ℕ
     s = statusOf (c .turn)
 
     go : (b : Bool) → waits (c .turn) (host ∷ []) ≡ b → (if b then among s givenStatuses else true) ≡ true → s / 8 * 8 ≡ s
-    go true w g = eqb-true _ _ (passes (λ k. eqb (k / 8 * 8) k) true givenStatuses s (one-of givenStatuses s (sym (if-true true _ _ refl) ∙ g)) tt)
+    go true w g = eqb-true _ _ (passes (λ k. eqb (k / 8 * 8) k) true givenStatuses s (one-of givenStatuses s g) tt)
     go false w g = rw (status-idle (c .turn) w)

@@ -20,9 +20,10 @@ use Rattle.responses.specs.Table.{entryAt}
 use Rattle.responses.specs.declared.entry.Entry.the-variants.{Never, Beside, Stays, Refused, Next}
 use Rattle.responses.specs.declared.entry.Entry.{Entry}
 
--- "The two ways of A0h, and all that F8h does (Off to Free, refusal 3, the turn kept), are beside the table"
-unfoldable pub beside : Controller → Control → Outcome
-beside c k =
+-- "The two ways of A0h, and all that F8h does (Off to Free, refusal 3, the turn kept), are beside the table". In Host the status is A0h here, since
+-- `entryAt` gives `Beside` for no other: "Free after a STOP, Listen after a START".
+unfoldable pub besideTable : Controller → Control → Outcome
+besideTable c k =
     if waits (c .turn) wireTurns then refuses c 3
     else if waits (c .turn) (off ∷ []) then controlled c k Free
     else if waits (c .turn) (host ∷ []) then controlled c k (afterEdge (edgeOf (c .turn)))
@@ -32,12 +33,13 @@ beside c k =
 -- with a status that never occurs is not sound.
 unfoldable pub byEntry : Controller → Control → Entry → Outcome
 byEntry c k Never = refuses c 10
-byEntry c k Beside = beside c k
+byEntry c k Beside = besideTable c k
 byEntry c k Stays = controlled c k (c .turn)
 byEntry c k (Refused why) = refuses c (refusalNumber why)
 byEntry c k (Next turn) = enabled c k (response.Next turn)
 
--- ENSIO 0, for which there is no table: refusals 3 and 4, or Off with STA 0
+-- ENSIO 0, for which there is no table: refusal 3, "wire turn: any write ..", refusal 4, "I2CCON write at 00h, 70h or 78h", or "ENSIO 0 leads to Off with
+-- STA 0"
 unfoldable pub disabled : Controller → Control → Outcome
 disabled c k =
     if waits (c .turn) wireTurns then refuses c 3

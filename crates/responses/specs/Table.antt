@@ -35,16 +35,18 @@ patternOf column = record {
 }
 
 -- what the rules answer, as an entry: a turn that is Host is the one that the controller is in, at 38h
-unfoldable pub entryOf : Response → Entry
-entryOf response.Unlisted = Refused refusal.Unlisted
-entryOf (response.Next turn) = if waits turn (host ∷ []) then Stays else Next turn
+unfoldable pub asEntry : Response → Entry
+asEntry response.Unlisted = Refused refusal.Unlisted
+asEntry (response.Next turn) = if waits turn (host ∷ []) then Stays else Next turn
 
--- the entry for a status and flags. The bus condition matters at A0h alone, which is beside the table: any will do for the rest.
+-- the entry for a status and flags, ENSIO not looked at. A0h and F8h: "are beside the table, and their 32 entries say only that". 00h, 70h, 78h: refusal
+-- 4. A status that some event gives: what the controller's own rule answers; any bus condition will do, since it matters at A0h alone. Else: "codes that
+-- never occur".
 unfoldable pub entryAt : ℕ → Control → Entry
 entryAt status k =
     if among status (0xA0 ∷ 0xF8 ∷ []) then Beside
     else if among status faults then Refused refusal.Locked
-    else if among status givenStatuses then entryOf (respondsAt status Stop k)
+    else if among status givenStatuses then asEntry (respondsAt status Stop k)
     else Never
 
 -- "Show once, over the whole table, that it agrees with document 01's rules as Ask 2 left them": the number at every row and column names what the

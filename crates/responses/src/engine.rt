@@ -11,16 +11,13 @@ use controller::effect::Setting;
 use controller::record::Controller;
 use controller::reply::Reply;
 ghost use mathlib.Core.Path.{_≡_};
-ghost use mathlib.Core.Bool.{true};
-ghost use Rattle.answer.specs.Refusal.{refusalNumber};
 ghost use Rattle.control.specs.Writing.{afterEdge};
 ghost use Rattle.control.specs.declared.writing.Response.the-variants.{Next};
 ghost use Rattle.controller.specs.Access.{writeOf};
 ghost use Rattle.controller.specs.Effect.{afterControl};
 ghost use Rattle.controller.specs.I2ccon.{controlled, badCount, enabled};
-ghost use Rattle.controller.specs.Record.{sound};
-ghost use Rattle.controller.specs.Reply.{outcomeOf, refuses};
-ghost use Rattle.responses.specs.Engine.{beside, byEntry, disabled};
+ghost use Rattle.controller.specs.Reply.{outcomeOf};
+ghost use Rattle.responses.specs.Engine.{besideTable, byEntry, disabled};
 
 // An accepted write: the flags and the next turn. STO is stored only where it leads to Stopping.
 fn accept(c: Controller, k: Control, turn: Turn) -> ControlEffect
@@ -45,7 +42,7 @@ fn has_bad_count(c: Controller, k: Control, turn: Turn) -> bool
     k.mode & (moves & ((count == 0) | (68 < count)))
 }
 
-// The next turn that an entry names, for a BC that is valid.
+// To the next turn that an entry names, or refusal 6.
 fn lead(c: Controller, k: Control, turn: Turn) -> ControlEffect
     ensures { λ r. ⌜ afterControl c r ≡ enabled c k (Next turn) ⌝ }
 {
@@ -57,7 +54,7 @@ fn lead(c: Controller, k: Control, turn: Turn) -> ControlEffect
 }
 
 // Where a write at A0h leads.
-fn after(edge: Edge) -> Turn
+fn after_edge(edge: Edge) -> Turn
     ensures { λ r. ⌜ r ≡ afterEdge edge ⌝ }
 {
     match edge {
@@ -68,12 +65,12 @@ fn after(edge: Edge) -> Turn
 
 // A0h and F8h, beside the table.
 fn beside(c: Controller, k: Control) -> ControlEffect
-    ensures { λ r. ⌜ afterControl c r ≡ beside c k ⌝ }
+    ensures { λ r. ⌜ afterControl c r ≡ besideTable c k ⌝ }
 {
     let turn = c.turn;
     match turn {
         Turn::Off => accept(c, k, Turn::Free),
-        Turn::Host(_, edge) => accept(c, k, after(edge)),
+        Turn::Host(_, edge) => accept(c, k, after_edge(edge)),
         Turn::Free | Turn::Busy | Turn::Listen => accept(c, k, turn),
         _ => ControlEffect::Refused(Refusal::OnTheWire),
     }
@@ -112,28 +109,20 @@ fn follow(c: Controller, k: Control, entry: Entry) -> ControlEffect
     }
 }
 
-// What a value, written to I2CCON of a sound record, changes.
+// What a value, written to I2CCON, changes.
 fn effect(c: Controller, value: u8) -> ControlEffect
-    requires { ⌜ sound c ≡ true ⌝ }
     ensures { λ r. ⌜ afterControl c r ≡ writeOf c 3 value ⌝ }
 {
-    let k = Control::of_byte(value);
-    if k.ensio {
-        let turn = c.turn;
-        follow(c, k, entry_at(turn.status(), k))
+    if c.is_sound() {
+        let k = Control::of_byte(value);
+        if k.ensio {
+            let turn = c.turn;
+            follow(c, k, entry_at(turn.status(), k))
+        } else {
+            disable(c, k)
+        }
     } else {
-        disable(c, k)
-    }
-}
-
-// The record stays.
-fn refuse(c: Controller, why: Refusal) -> Reply
-    ensures { λ r. ⌜ outcomeOf r ≡ refuses c (refusalNumber why) ⌝ }
-{
-    let answer = Answer::Refused(why);
-    Reply {
-        controller: c,
-        answer,
+        ControlEffect::Refused(Refusal::Unsound)
     }
 }
 
@@ -141,18 +130,20 @@ fn refuse(c: Controller, why: Refusal) -> Reply
 pub fn write_by_table(c: Controller, value: u8) -> Reply
     ensures { λ r. ⌜ outcomeOf r ≡ writeOf c 3 value ⌝ }
 {
-    if c.is_sound() {
-        match effect(c, value) {
-            ControlEffect::Refused(why) => refuse(c, why),
-            ControlEffect::Set(s) => {
-                let answer = Answer::Accepted(0);
-                Reply {
-                    controller: c.set(s),
-                    answer,
-                }
+    match effect(c, value) {
+        ControlEffect::Refused(why) => {
+            let answer = Answer::Refused(why);
+            Reply {
+                controller: c,
+                answer,
             }
         }
-    } else {
-        refuse(c, Refusal::Unsound)
+        ControlEffect::Set(s) => {
+            let answer = Answer::Accepted(0);
+            Reply {
+                controller: c.set(s),
+                answer,
+            }
+        }
     }
 }

@@ -19,7 +19,7 @@ pub enum Entry {
 
 impl Entry {
     // What a number in the table names.
-    pub fn of_number(number: u8) -> Entry
+    pub(crate) fn of_number(number: u8) -> Entry
         ensures { λ r. ⌜ r ≡ names number ⌝ }
     {
         match number {

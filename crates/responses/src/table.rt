@@ -2,7 +2,7 @@
 use crate::entry::Entry;
 use control::flags::Control;
 ghost use mathlib.Core.Path.{_≡_};
-ghost use Prim.Native.Nat.{_≤_, _*_, _/_};
+ghost use Prim.Native.Nat.{_<_, _≤_, _*_, _/_};
 ghost use Rattle.control.specs.Flags.{weighs};
 ghost use Rattle.responses.specs.Table.{entryAt, columnOf, patternOf, Agrees};
 
@@ -58,7 +58,7 @@ fn weigh(bit: bool, weight: usize) -> usize
 
 // The column of these flags; ENSIO has no part in it.
 fn column(k: Control) -> usize
-    ensures { λ r. ⌜ r ≡ columnOf k ⌝ }
+    ensures { λ r. ⌜ (r ≡ columnOf k) × (r < 16) ⌝ }
 {
     let sta = weigh(k.sta, 8);
     let sto = weigh(k.sto, 4);
@@ -67,7 +67,7 @@ fn column(k: Control) -> usize
     sta + sto + aa + mode
 }
 
-// The flags of a column, with ENSIO 1. (A number over 15 stands for its last four bits.)
+// The flags of a column, with ENSIO 1. (A number over 15 stands for its low four bits.)
 pub fn pattern(column: u8) -> Control
     ensures { λ r. ⌜ r ≡ patternOf column ⌝ }
 {
@@ -80,7 +80,7 @@ pub fn pattern(column: u8) -> Control
     }
 }
 
-// The entry for a status and flags. (A status that is no multiple of 8 stands for the next one below it that is.)
+// The entry for a status and flags, ENSIO not looked at. (A status that is no multiple of 8 stands for the next one below it that is.)
 pub fn entry_at(status: u8, k: Control) -> Entry
     ensures { λ r. ⌜ r ≡ entryAt (status / 8 * 8) k ⌝ }
 {

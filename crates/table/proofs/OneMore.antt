@@ -5,7 +5,7 @@ use Prim.Native.Nat.{ℕ, _+_}
 use native.Mathlib.Numerals.{add-one}
 use Rattle.responses.specs.Table.{entryAt, patternOf}
 use Rattle.responses.specs.declared.entry.Entry.{Entry}
-use Rattle.table.specs.Program.{cells, row, rows}
+use Rattle.table.specs.TableText.{cells, rowText, rows}
 use Rattle.table.specs.Words.{entryWord}
 
 pub cell-more : (status column : ℕ) (e : Entry) → e ≡ entryAt status (patternOf column) →
@@ -13,6 +13,6 @@ pub cell-more : (status column : ℕ) (e : Entry) → e ≡ entryAt status (patt
 unfolding cells
 cell-more status column e h = rw (h, add-one column)
 
-pub row-more : (n : ℕ) → rows n ++ row n ≡ rows (n + 1)
+pub row-more : (n : ℕ) → rows n ++ rowText n ≡ rows (n + 1)
 unfolding rows
 row-more n = rw (add-one n)

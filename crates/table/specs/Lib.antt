@@ -1,3 +1,3 @@
 -- What the program prints.
 pub mod Words
-pub mod Program
+pub mod TableText

@@ -1,4 +1,4 @@
--- The words in the cells of the response table.
+-- Document 02, request 4, "The bench people read tables": the words in the cells. (Those of the turns are document 01's, the others the program's.)
 use mathlib.Core.List.{List, [], _∷_, _++_}
 use Prim.Native.Nat.{ℕ}
 use Rattle.answer.specs.Refusal.{refusalNumber}
@@ -32,13 +32,13 @@ turnWord Stopping = 83 ∷ 116 ∷ 111 ∷ 112 ∷ 112 ∷ 105 ∷ 110 ∷ 103 �
 turnWord Restarting = 82 ∷ 101 ∷ 115 ∷ 116 ∷ 97 ∷ 114 ∷ 116 ∷ 105 ∷ 110 ∷ 103 ∷ []
 
 -- "refused"
-abbrev pub refusedWord : List ℕ
-refusedWord = 114 ∷ 101 ∷ 102 ∷ 117 ∷ 115 ∷ 101 ∷ 100 ∷ []
+abbrev pub refusedCell : List ℕ
+refusedCell = 114 ∷ 101 ∷ 102 ∷ 117 ∷ 115 ∷ 101 ∷ 100 ∷ []
 
 -- "never", "beside", "stays", `refused4`, or the turn
 unfoldable pub entryWord : Entry → List ℕ
 entryWord Never = 110 ∷ 101 ∷ 118 ∷ 101 ∷ 114 ∷ []
 entryWord Beside = 98 ∷ 101 ∷ 115 ∷ 105 ∷ 100 ∷ 101 ∷ []
 entryWord Stays = 115 ∷ 116 ∷ 97 ∷ 121 ∷ 115 ∷ []
-entryWord (Refused why) = refusedWord ++ decimalOf 20 (refusalNumber why)
+entryWord (Refused why) = refusedCell ++ decimalOf 20 (refusalNumber why)
 entryWord (Next turn) = turnWord turn

@@ -6,7 +6,7 @@ use text::put::put;
 use text::put::put_hex;
 use text::put::put_word;
 ghost use Prim.Native.Nat.{_*_, _/_, _<_};
-ghost use Rattle.table.specs.Program.{heading, cells, row as rowText, rows, tableText};
+ghost use Rattle.table.specs.TableText.{heading, cells, rowText, rows, tableText};
 ghost use Rattle.text.specs.Text.{Holds};
 
 // `status` and the sixteen patterns of STA, STO, AA and MODE.

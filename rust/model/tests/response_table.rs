@@ -2,7 +2,7 @@
 //! I2CCON write with ENSIO 1 and a valid BC does at each status, by the four
 //! bits STA, STO, AA and MODE.
 //!
-//! The table is read as the program printed it; the model is led to each
+//! The table is read as the program has to print it; the model is led to each
 //! status by accesses and events only.
 
 #[path = "response_table/step.rs"]
@@ -16,12 +16,9 @@ mod ways;
 
 use model::{Controller, Edge, Refusal, Turn};
 use std::collections::BTreeSet;
-use step::{AA, ENSIO, I2CCON, INDIRECT, INDPTR, MODE, STA, STO, Step};
+use step::{AA, ENSIO, I2CCON, INDIRECT, INDPTR, MODE, NO_STATUS, STA, STO, Step};
 use table::{Cell, Table, WORDS, statuses};
 use walk::{Taken, walk};
-
-/// The status while SI is 0.
-const NO_STATUS: u8 = 0xF8;
 
 /// The sixteen patterns of STA, STO, AA and MODE, highest first.
 const PATTERNS: std::ops::Range<u8> = 0..16;
@@ -93,7 +90,7 @@ fn responses_of(records: Vec<Controller>) -> impl Iterator<Item = Response> {
     })
 }
 
-/// The responses at every status, by every way there, with every BC.
+/// The responses at every status, by every way there, with each of [`ways::COUNTS`].
 fn responses() -> Vec<Response> {
     let records = |count| [ways::in_host(count), ways::at_f8h(count)].concat();
     let records = ways::COUNTS.into_iter().flat_map(records);

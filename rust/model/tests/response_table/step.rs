@@ -8,6 +8,9 @@ pub const STA: u8 = 0x20;
 pub const STO: u8 = 0x10;
 pub const MODE: u8 = 0x01;
 
+/// The status while SI is 0; a way from it begins in Off.
+pub const NO_STATUS: u8 = 0xF8;
+
 /// INDPTR, when written.
 pub const INDPTR: u8 = 0;
 pub const I2CDAT: u8 = 1;

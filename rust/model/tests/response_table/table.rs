@@ -42,7 +42,7 @@ pub const WORDS: [(&str, Cell); 14] = [
     ("never", Cell::Never),
 ];
 
-/// "One table of 512 entries, by status divided by 8 and the four bits STA,
+/// "one table of 512 entries, by status divided by 8 and the four bits STA,
 /// STO, AA and MODE, highest first."
 #[derive(Clone)]
 pub struct Table {
@@ -93,7 +93,7 @@ impl Table {
     }
 }
 
-/// What the program printed.
+/// What the program has to print.
 pub fn printed_text() -> String {
     let path = concat!(env!("CARGO_MANIFEST_DIR"), "/../../crates/table/stdout");
     std::fs::read_to_string(path).unwrap_or_else(|fault| panic!("{path}: {fault}"))

@@ -1,12 +1,9 @@
 //! Ways to every status and to every turn at F8h, by accesses and events only.
 
-use crate::step::{AA, ENSIO, I2CCON, I2CDAT, INDIRECT, INDPTR, STA, STO, Step};
+use crate::step::{AA, ENSIO, I2CCON, I2CDAT, INDIRECT, INDPTR, NO_STATUS, STA, STO, Step};
 use model::{Called, Controller, Turn};
 
 use Step::Event;
-
-/// The status while SI is 0, and where the ways begin: at F8h in Off.
-const NO_STATUS: u8 = 0xF8;
 
 /// I2CADR: own address 70h, GC 1.
 const OWN: u8 = 0xE1;

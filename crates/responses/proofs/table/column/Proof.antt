@@ -1,4 +1,4 @@
--- `column` is `columnOf`.
+-- `column` is `columnOf`, and below 16.
 use borrow.Author.Needs.{needs}
 use Rattle.responses.specs.Table.{columnOf}
 use Rattle.responses.proofs.table.column.Statement.{statement}
@@ -6,7 +6,7 @@ use Rattle.responses.proofs.table.column.Tie as tie
 
 returns : tie.Need-returns
 unfolding columnOf
-returns c = cc
+returns c = (cc, search needs)
 
 pub column-spec : {M : Type 1} → statement M
 column-spec =

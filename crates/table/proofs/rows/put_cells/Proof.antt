@@ -4,7 +4,7 @@ use Prim.Native.Nat.{_≤_, _-_, _*_, _/_}
 use native.Mathlib.Omega.{arith}
 use borrow.Author.Needs.{needs}
 use Rattle.responses.specs.Table.{entryAt}
-use Rattle.table.specs.Program.{cells}
+use Rattle.table.specs.TableText.{cells}
 use Rattle.text.proofs.Holds.{said, none, chain, same-room}
 use Rattle.text.specs.Text.{Holds}
 use Rattle.table.proofs.OneMore.{cell-more}

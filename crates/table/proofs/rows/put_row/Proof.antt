@@ -3,7 +3,7 @@ use mathlib.Core.Path.{_≡_, ap}
 use Prim.Native.Nat.{ℕ, _*_, _/_}
 use native.Mathlib.Omega.{arith}
 use borrow.Author.Needs.{needs}
-use Rattle.table.specs.Program.{cells, row}
+use Rattle.table.specs.TableText.{cells, rowText}
 use Rattle.text.proofs.Holds.{said, chain}
 use Rattle.table.proofs.rows.put_row.Statement.{statement}
 use Rattle.table.proofs.rows.put_row.Tie as tie
@@ -12,7 +12,7 @@ eights : (n : ℕ) → n * 8 / 8 * 8 ≡ n * 8
 eights n = omega arith
 
 returns : tie.Need-returns
-unfolding row
+unfolding rowText
 returns c =
     let end = c .before .before in
     let sixteen = end .before .before .before .before in

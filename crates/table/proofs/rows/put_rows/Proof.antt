@@ -3,7 +3,7 @@ use mathlib.Core.Path.{ap}
 use Prim.Native.Nat.{_≤_, _-_}
 use native.Mathlib.Omega.{arith}
 use borrow.Author.Needs.{needs}
-use Rattle.table.specs.Program.{rows}
+use Rattle.table.specs.TableText.{rows}
 use Rattle.text.proofs.Holds.{said, none, chain, same-room}
 use Rattle.text.specs.Text.{Holds}
 use Rattle.table.proofs.OneMore.{row-more}

@@ -1,6 +1,6 @@
 -- `put_table` puts the heading and the rows.
 use borrow.Author.Needs.{needs}
-use Rattle.table.specs.Program.{tableText}
+use Rattle.table.specs.TableText.{tableText}
 use Rattle.text.proofs.Holds.{chain}
 use Rattle.table.proofs.rows.put_table.Statement.{statement}
 use Rattle.table.proofs.rows.put_table.Tie as tie
