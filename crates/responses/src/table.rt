@@ -6,7 +6,8 @@ ghost use Prim.Native.Nat.{_<_, _≤_, _*_, _/_};
 ghost use Rattle.control.specs.Flags.{weighs};
 ghost use Rattle.responses.specs.Table.{entryAt, columnOf, patternOf, Agrees};
 
-// A row for each status, from 00h to F8h; in a row the sixteen patterns of STA, STO, AA and MODE, from 0000 to 1111.
+// A row for each status, from 00h to F8h; in a row the sixteen patterns of STA, STO, AA and MODE, from 0000 to 1111. What a number names is
+// `Entry::of_number`.
 const TABLE: [[u8; 16]; 32] = [
     [4, 4, 4, 4, 4, 4, 4, 4, 4, 4, 4, 4, 4, 4, 4, 4], // 00h
     [11, 5, 11, 5, 11, 5, 11, 5, 11, 5, 11, 5, 11, 5, 11, 5], // 08h
