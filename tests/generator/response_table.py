@@ -2,8 +2,9 @@
 
 The table is that of document 02's Ask 4: the answer to an I2CCON write
 with ENSIO 1 and a valid BC, by the status before it and the four bits
-STA, STO, AA and MODE.  It is decided from document 01, "Writing I2CCON"
-and "Refusals of an access or event", as Ask 2 mended them at 38h.
+STA, STO, AA and MODE.  It is decided from document 01, "Writing I2CCON",
+"Refusals of an access or event" and, for the codes that occur, "Events",
+as Ask 2 mended them at 38h.
 Words in quotation marks in the comments are those of the papers.
 
 A cell is the name of the next turn, or one of these words:
@@ -28,7 +29,7 @@ GIVEN_BY_EVENT = {
     3: {0xA0},
     # "Own STOP. Stopping: Free, STO 0."
     4: set(),
-    # "Byte 00h with AA and GC: D0h. Else ...: 60h, or A8h for R 1."
+    # "Byte 00h with AA and GC: D0h. Else ..: 60h, or A8h for R 1."
     5: {0xD0, 0x60, 0xA8},
     # "Address: 18h/20h, for R 1 40h/48h. Send: 28h/30h. SlaveSend: NACK
     # C0h; ACK gives C8h with AA 0, else B8h."
@@ -53,7 +54,7 @@ GIVEN_BY_EVENT = {
 
 EVER_GIVEN = set().union(*GIVEN_BY_EVENT.values())
 
-# Ask 4: "The two ways of A0h, and all that F8h does ... are beside the
+# Ask 4: "The two ways of A0h, and all that F8h does .. are beside the
 # table, and their 32 entries say only that."
 BESIDE = {0xA0, 0xF8}
 

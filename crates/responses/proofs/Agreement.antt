@@ -18,16 +18,16 @@ at-place zero f other k h = absurd (not-suc-le-zero h)
 at-place (suc n) f other zero h = refl
 at-place (suc n) f other (suc k) h = at-place n (λ i. f (suc i)) other k (le-of-suc-le-suc h)
 
--- the entries that the rules give: thirty-two rows of sixteen
+-- the entries that the rules give in a row, sixteen of them
 abbrev rowGiven : ℕ → List Entry
 rowGiven row = tabulate 16 (λ column. entryAt (row * 8) (patternOf column))
 
 -- the test over all 512: every number of the table names the entry that the rules give in its place. (Both sides compute, so `refl` passes it.)
-abbrev pub Passes : List (List ℕ) → Type 0
-Passes rows = map (map names) rows ≡ tabulate 32 rowGiven
+abbrev pub AllNamed : List (List ℕ) → Type 0
+AllNamed rows = map (map names) rows ≡ tabulate 32 rowGiven
 
 -- from the test to the rule at every entry
-pub agrees : (rows : List (List ℕ)) → Passes rows → Agrees rows
+pub agrees : (rows : List (List ℕ)) → AllNamed rows → Agrees rows
 unfolding Agrees
 agrees rows t row column h g =
     let same = sym (List·getD-map (map names) rows row []) ∙ ap (λ (l : List (List Entry)). getD l row []) t ∙ at-place 32 rowGiven [] row h in

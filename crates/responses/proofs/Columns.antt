@@ -1,4 +1,4 @@
--- The flags of the column of some flags are theirs. Assumes nothing.
+-- The flags of the column of some flags are theirs but for ENSIO, at which the entry does not look. Assumes nothing.
 use mathlib.Core.Bool.{Bool, true, false}
 use mathlib.Core.Path.{_≡_, refl, ap, _∙_}
 use Prim.Native.Nat.{ℕ, _+_}

@@ -114,7 +114,7 @@ module _ (c : Controller) (k : Control) (s : ℕ) (e : Edge) where
       (λ a. split P (among s faults) (Refused Locked) _ locked
       (λ f. ap (byEntry waiting k) (if-true _ _ _ g) ∙ alike a .same ∙ sym (flagged f n)))
 
--- the same in any turn: in a wire turn refusal 3, out of Host the turn kept
+-- the same in any turn: in a wire turn refusal 3, from Off to Free, in Free, Busy and Listen the turn kept
 ruled : (c : Controller) (k : Control) (t : Turn) → sound (withTurn c t) ≡ true → k .ensio ≡ true →
     byEntry (withTurn c t) k (entryAt (statusOf t) k) ≡ (if waits t wireTurns then refuses (withTurn c t) 3 else writeFlags (withTurn c t) k)
 unfolding byEntry entryAt besideTable writeFlags response hostSound statusOf kind among if_then_else_

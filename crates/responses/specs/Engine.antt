@@ -20,8 +20,8 @@ use Rattle.responses.specs.Table.{entryAt}
 use Rattle.responses.specs.declared.entry.Entry.the-variants.{Never, Beside, Stays, Refused, Next}
 use Rattle.responses.specs.declared.entry.Entry.{Entry}
 
--- "The two ways of A0h, and all that F8h does (Off to Free, refusal 3, the turn kept), are beside the table". In Host the status is A0h here, since
--- `entryAt` gives `Beside` for no other: "Free after a STOP, Listen after a START".
+-- "The two ways of A0h, and all that F8h does (Off to Free, refusal 3, the turn kept), are beside the table". In Host the status is A0h here:
+-- `entryAt` gives `Beside` at A0h and F8h alone, and no sound record is in Host at F8h. "Free after a STOP, Listen after a START".
 unfoldable pub besideTable : Controller → Control → Outcome
 besideTable c k =
     if waits (c .turn) wireTurns then refuses c 3

@@ -10,8 +10,7 @@ use Rattle.responses.specs.declared.entry.Entry.the-variants.{Never, Beside, St
 use Rattle.responses.specs.declared.entry.Entry.{Entry}
 use Rattle.text.specs.Text.{decimalOf}
 
--- The words, as the bytes of their letters.
--- "SlaveReceive/"
+-- "SlaveReceive/", as the bytes of its letters, and so the words below
 abbrev pub slaveReceiveWord : List ℕ
 slaveReceiveWord = 83 ∷ 108 ∷ 97 ∷ 118 ∷ 101 ∷ 82 ∷ 101 ∷ 99 ∷ 101 ∷ 105 ∷ 118 ∷ 101 ∷ 47 ∷ []
 
@@ -35,7 +34,7 @@ turnWord Restarting = 82 ∷ 101 ∷ 115 ∷ 116 ∷ 97 ∷ 114 ∷ 116 ∷ 105 
 abbrev pub refusedCell : List ℕ
 refusedCell = 114 ∷ 101 ∷ 102 ∷ 117 ∷ 115 ∷ 101 ∷ 100 ∷ []
 
--- "never", "beside", "stays", `refused4`, or the turn
+-- "never", "beside", "stays", "refused" and the number, or the turn
 unfoldable pub entryWord : Entry → List ℕ
 entryWord Never = 110 ∷ 101 ∷ 118 ∷ 101 ∷ 114 ∷ []
 entryWord Beside = 98 ∷ 101 ∷ 115 ∷ 105 ∷ 100 ∷ 101 ∷ []
