@@ -1,5 +1,5 @@
--- Document 01, The controller record and Refusals: accesses of I2CDAT (register 1), one after the other, each by the controller's own
--- rule. A refused one leaves the record as it is and gives 0.
+-- Accesses of I2CDAT (register 1), one after the other, each by the controller's own rule, so that the code may make many at once. No rule of document
+-- 01 stands here: what a refused one leaves and gives is the controller's.
 use mathlib.Core.List.{List, [], _∷_}
 use Prim.Native.Nat.{ℕ, zero, suc}
 use Rattle.control.specs.Turn.{waits, wireTurns}
@@ -23,6 +23,7 @@ unfoldable pub valuesRead : ℕ → Controller → List ℕ
 valuesRead zero c = []
 valuesRead (suc more) c = (readOf c 1) .value ∷ valuesRead more ((readOf c 1) .next)
 
--- I2CDAT reaches the places below this: 68 of them, and none where the record isn't sound (refusal 10) or in a wire turn (3)
+-- For the code's speed, and no rule: I2CDAT reaches the places below this: 68 of them, and none where the record isn't sound (refusal 10) or in a wire
+-- turn (3)
 unfoldable pub reachOf : Controller → ℕ
 reachOf c = if sound c then (if waits (c .turn) wireTurns then 0 else 68) else 0

@@ -1,6 +1,6 @@
 -- Document 01, Registers and Refusals: a read or write of any register. The refusals come in the table's order: 1, 10, 9, 3, and then
 -- those of the register itself.
-use mathlib.Core.Bool.{Bool, false}
+use mathlib.Core.Bool.{Bool, not}
 use Prim.Native.Nat.{ℕ}
 use lib.Dec.{eqb, ltb}
 use Rattle.control.specs.Flags.{readsAs}
@@ -22,8 +22,7 @@ barsRead c register = waits (c .turn) wireTurns and eqb register 1
 
 -- refusal 3: "wire turn: any write but to INDPTR or to register 2 with pointer 05h"
 unfoldable pub barsWrite : Controller → ℕ → Bool
-barsWrite c register =
-    if eqb register 0 or indirectAt c register 5 then false else waits (c .turn) wireTurns
+barsWrite c register = not (eqb register 0 or indirectAt c register 5) and waits (c .turn) wireTurns
 
 -- "Address 0: read I2CSTA .. 1: I2CDAT. 2: the register at the pointer. 3: I2CCON"
 -- Refusal 9: "register 2: .. or read with pointer 05h".

@@ -1,11 +1,11 @@
--- What the effect that a rule gives makes of the record. Plumbing: in the code a rule gives what changes, and promises that this is the
--- outcome document 01 gives.
+-- What the effect that a rule gives makes of the record. Plumbing of the code's way to change a record in place, and no rule: in the code a rule gives
+-- what changes, and promises that this is the outcome document 01 gives.
 use Prim.Native.Nat.{_+_}
 use Rattle.answer.specs.Refusal.{refusalNumber}
 use Rattle.control.specs.declared.turn.Turn.the-variants.{Free, Busy, Listen}
 use Rattle.controller.specs.Condition.{withoutStop}
 use Rattle.controller.specs.Registers.{wrote, stored}
-use Rattle.controller.specs.Reply.{Outcome, refuses, accepts, waitsFor, interruptsAt, gives, changesStatus}
+use Rattle.controller.specs.Reply.{Outcome, ack, nack, noValue, refuses, accepts, waitsFor, interruptsAt, gives, changesStatus}
 use Rattle.controller.specs.Reset.{reset}
 use Rattle.controller.specs.Setters.{withPlace, withHand, withMoved, withPointer, withArmed, withRegisters, withControl, withTurn}
 use Rattle.controller.specs.Transfer.{counted, received}
@@ -38,9 +38,9 @@ afterWrite c (write.Refused why) = refuses c (refusalNumber why)
 afterWrite c (write.Pointed pointer) = wrote (withPointer c pointer)
 afterWrite c (write.Loaded byte) = wrote (withHand (withPlace c (c .hand) byte) (c .hand + 1))
 afterWrite c (write.Registered value) = wrote (withRegisters c (stored (c .registers) (c .pointer) value))
-afterWrite c (write.Armed armed) = accepts (withArmed c armed) 0
+afterWrite c (write.Armed armed) = accepts (withArmed c armed) noValue
 afterWrite c (write.Set s) = wrote (setTo c s)
-afterWrite c write.Reset = accepts (reset c) 0
+afterWrite c write.Reset = accepts (reset c) noValue
 
 -- STO 0
 abbrev pub stoCleared : Controller → Controller
@@ -48,15 +48,15 @@ stoCleared c = withControl c (withoutStop (c .control))
 
 unfoldable pub afterEvent : Controller → EventEffect → Outcome
 afterEvent c (event.Refused why) = refuses c (refusalNumber why)
-afterEvent c event.Unchanged = accepts c 0
-afterEvent c event.Listen = waitsFor c Listen 0
-afterEvent c event.Busy = waitsFor c Busy 1
-afterEvent c event.Free = waitsFor c Free 0
-afterEvent c event.Stopped = waitsFor (stoCleared c) Free 0
+afterEvent c event.Unchanged = accepts c noValue
+afterEvent c event.Listen = waitsFor c Listen noValue
+afterEvent c event.Busy = waitsFor c Busy nack
+afterEvent c event.Free = waitsFor c Free noValue
+afterEvent c event.Stopped = waitsFor (stoCleared c) Free noValue
 afterEvent c (event.Interrupts status edge value) = interruptsAt c status edge value
 afterEvent c (event.Sent byte) = accepts (counted c) byte
 afterEvent c (event.SentLast status byte) = gives (counted c) status byte
-afterEvent c (event.Received byte) = accepts (received c byte) 0
+afterEvent c (event.Received byte) = accepts (received c byte) ack
 afterEvent c (event.ReceivedLast status byte value) = gives (received c byte) status value
 afterEvent c (event.ChangesStatus status) = changesStatus c status
-afterEvent c event.Reset = accepts (reset c) 0
+afterEvent c event.Reset = accepts (reset c) noValue

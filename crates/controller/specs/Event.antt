@@ -5,7 +5,7 @@ use lib.Dec.{eqb, ltb}
 use Rattle.controller.specs.Condition.{ownStart, otherStart, otherStop, ownStop, addressByte}
 use Rattle.controller.specs.Condition.{addressLost, dataLost, illegalEdge, dataHeld, clockHeld, idle}
 use Rattle.controller.specs.Record.{sound}
-use Rattle.controller.specs.Reply.{Outcome, refuses, accepts}
+use Rattle.controller.specs.Reply.{Outcome, noValue, refuses, accepts}
 use Rattle.controller.specs.Reset.{reset}
 use Rattle.controller.specs.Transfer.{byteOut, byteIn}
 use Rattle.controller.specs.declared.record.Controller.{Controller}
@@ -18,7 +18,7 @@ badArgument number argument =
     else if eqb number 6 then ltb 1 argument
     else ltb 0 argument
 
--- events 1 to 13, of a sound record
+-- events 1 to 13, of a sound record. No other number gets here (`eventOf`), and none would be expected.
 unfoldable pub eventSound : Controller → ℕ → ℕ → Outcome
 eventSound c number argument =
     if eqb number 1 then ownStart c
@@ -33,13 +33,14 @@ eventSound c number argument =
     else if eqb number 10 then illegalEdge c
     else if eqb number 11 then dataHeld c
     else if eqb number 12 then clockHeld c
-    else idle c
+    else if eqb number 13 then idle c
+    else refuses c 8
 
 -- refusal 1: "event not 1..14"; 14: "Reset pin: always, as reset"; refusal 10: "the record isn't sound, save for event 14"
 unfoldable pub eventOf : Controller → ℕ → ℕ → Outcome
 eventOf c number argument =
     if eqb number 0 or ltb 14 number then refuses c 1
     else if badArgument number argument then refuses c 2
-    else if eqb number 14 then accepts (reset c) 0
+    else if eqb number 14 then accepts (reset c) noValue
     else if sound c then eventSound c number argument
     else refuses c 10

@@ -28,9 +28,12 @@ keeps old k turn = record {
   mode = k .mode;
 }
 
--- an accepted write: the flags, the next turn, and hand place and moved count back at 0
+-- an accepted write: hand place and moved count back at 0, then the flags stored, then the next turn
 unfoldable pub controlled : Controller → Control → Turn → Outcome
-controlled c k turn = wrote (withTurn (withControl (withMoved (withHand c 0) 0) (keeps (c .control) k turn)) turn)
+controlled c k turn =
+    let cleared = withMoved (withHand c 0) 0 in
+    let flagged = withControl cleared (keeps (c .control) k turn) in
+    wrote (withTurn flagged turn)
 
 -- refusal 6: "that write would start a buffered data move and BC is not 1..68"
 unfoldable pub badCount : Controller → Control → Turn → Bool

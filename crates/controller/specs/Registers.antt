@@ -4,7 +4,7 @@ use Prim.Native.Nat.{ℕ, _+_, _%_}
 use lib.Dec.{eqb}
 use Rattle.controller.specs.Record.{place}
 use Rattle.controller.specs.Setters.{withPlace, withHand, withPointer, withArmed, withRegisters}
-use Rattle.controller.specs.Reply.{Outcome, refuses, accepts}
+use Rattle.controller.specs.Reply.{Outcome, noValue, refuses, accepts}
 use Rattle.controller.specs.Reset.{writePreset}
 use Rattle.controller.specs.declared.record.Controller.{Controller}
 use Rattle.controller.specs.declared.record.Registers.{Registers}
@@ -12,7 +12,7 @@ use Rattle.notation.specs.Choice.{if_then_else_}
 
 -- an accepted write that is no A5h to I2CPRESET: it disarms the software reset
 unfoldable pub wrote : Controller → Outcome
-wrote c = accepts (withArmed c false) 0
+wrote c = accepts (withArmed c false) noValue
 
 -- "write INDPTR (low three bits)"
 unfoldable pub writePointer : Controller → ℕ → Outcome

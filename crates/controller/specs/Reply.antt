@@ -27,6 +27,17 @@ refuses c number = record { next = c; refused = number; value = 0 }
 unfoldable pub accepts : Controller → ℕ → Outcome
 accepts c value = record { next = c; refused = 0; value = value }
 
+-- The value, of what is no read and no event 6: "1 for a NACK in events 5, 7 and 8 (no match is a NACK), else 0". In these three events 0 tells ACK;
+-- in every other it tells nothing.
+abbrev pub ack : ℕ
+ack = 0
+
+abbrev pub nack : ℕ
+nack = 1
+
+abbrev pub noValue : ℕ
+noValue = 0
+
 -- accepted, waiting for something else
 unfoldable pub waitsFor : Controller → Turn → ℕ → Outcome
 waitsFor c turn value = accepts (withTurn c turn) value
@@ -45,4 +56,4 @@ gives c status value = interruptsAt c status Stop value
 
 -- another status where SI is 1 already: it does not become 1, and the hand place stays
 unfoldable pub changesStatus : Controller → ℕ → Outcome
-changesStatus c status = accepts (withStatus c status Stop) 0
+changesStatus c status = accepts (withStatus c status Stop) noValue

@@ -8,7 +8,7 @@ use Rattle.control.specs.declared.reason.Reason.the-variants.{NoneYet, Reset}
 use Rattle.control.specs.declared.reason.Reason.{Reason}
 use Rattle.control.specs.declared.turn.Turn.the-variants.{Off}
 use Rattle.controller.specs.Setters.{withArmed}
-use Rattle.controller.specs.Reply.{Outcome, accepts}
+use Rattle.controller.specs.Reply.{Outcome, noValue, accepts}
 use Rattle.controller.specs.declared.record.Controller.{Controller}
 use Rattle.controller.specs.declared.record.Registers.{Registers}
 use Rattle.notation.specs.Choice.{if_then_else_, _and_}
@@ -46,5 +46,5 @@ completesReset c value = c .armed and eqb value 0x5A
 -- I2CPRESET: "A5h written to I2CPRESET arms it .. Any other accepted write disarms, but A5h to I2CPRESET arms again"
 unfoldable pub writePreset : Controller → ℕ → Outcome
 writePreset c value =
-    if completesReset c value then accepts (reset c) 0
-    else accepts (withArmed c (eqb value 0xA5)) 0
+    if completesReset c value then accepts (reset c) noValue
+    else accepts (withArmed c (eqb value 0xA5)) noValue

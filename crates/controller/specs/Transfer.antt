@@ -11,7 +11,7 @@ use Rattle.control.specs.declared.turn.Called.the-variants.{Own, General}
 use Rattle.control.specs.declared.turn.Called.{Called}
 use Rattle.controller.specs.Record.{place, byteCount, lastByte}
 use Rattle.controller.specs.Setters.{withPlace, withMoved}
-use Rattle.controller.specs.Reply.{Outcome, refuses, accepts, gives}
+use Rattle.controller.specs.Reply.{Outcome, ack, nack, refuses, accepts, gives}
 use Rattle.controller.specs.declared.record.Controller.{Controller}
 use Rattle.notation.specs.Choice.{if_then_else_}
 
@@ -28,15 +28,15 @@ counted c = withMoved c (c .moved + 1)
 
 -- a data byte out: "Sending ends at the first NACK or when moved = BC .. Before the end no status is set"
 unfoldable pub dataOut : Controller → ℕ → ℕ → ℕ → Outcome
-dataOut c nack nackAt doneAt =
-    if eqb nack 1 then gives (counted c) nackAt (place c (cursor c))
+dataOut c argument nackAt doneAt =
+    if eqb argument nack then gives (counted c) nackAt (place c (cursor c))
     else if isLast c then gives (counted c) doneAt (place c (cursor c))
     else accepts (counted c) (place c (cursor c))
 
 -- the address byte out, place 0: "18h/20h, for R 1 40h/48h"
 unfoldable pub addressStatus : Direction → ℕ → ℕ
-addressStatus Write nack = if eqb nack 1 then 0x20 else 0x18
-addressStatus Read nack = if eqb nack 1 then 0x48 else 0x40
+addressStatus Write argument = if eqb argument nack then 0x20 else 0x18
+addressStatus Read argument = if eqb argument nack then 0x48 else 0x40
 
 -- R of the address byte, which is place 0
 abbrev pub sentDirection : Controller → Direction
@@ -44,10 +44,10 @@ sentDirection c = directionOf (record { 0 = place c 0 })
 
 -- 6. "Byte out, argument 0 ACK, 1 NACK; the answer gives the byte." SlaveSend: "ACK gives C8h with AA 0, else B8h"
 unfoldable pub byteOut : Controller → ℕ → Outcome
-byteOut c nack =
-    if waits (c .turn) (address ∷ []) then gives c (addressStatus (sentDirection c) nack) (place c 0)
-    else if waits (c .turn) (send ∷ []) then dataOut c nack 0x30 0x28
-    else if waits (c .turn) (slaveSend ∷ []) then dataOut c nack 0xC0 (if c .control .aa then 0xB8 else 0xC8)
+byteOut c argument =
+    if waits (c .turn) (address ∷ []) then gives c (addressStatus (sentDirection c) argument) (place c 0)
+    else if waits (c .turn) (send ∷ []) then dataOut c argument 0x30 0x28
+    else if waits (c .turn) (slaveSend ∷ []) then dataOut c argument 0xC0 (if c .control .aa then 0xB8 else 0xC8)
     else refuses c 8
 
 -- the last byte of a move is acknowledged: in Byte mode "exactly when AA is 1", in Buffered mode "exactly when LB is 0"
@@ -58,12 +58,12 @@ acknowledgesLast c = if c .control .mode then not (lastByte c) else c .control .
 unfoldable pub received : Controller → ℕ → Controller
 received c byte = counted (withPlace c (cursor c) byte)
 
--- a data byte in: "Receiving ACKs all but the last"; the value tells ACK (0) or NACK (1)
+-- a data byte in: "Receiving ACKs all but the last"; "the answer tells ACK or NACK"
 unfoldable pub dataIn : Controller → ℕ → ℕ → ℕ → Outcome
 dataIn c byte ackAt nackAt =
     if isLast c
-    then (if acknowledgesLast c then gives (received c byte) ackAt 0 else gives (received c byte) nackAt 1)
-    else accepts (received c byte) 0
+    then (if acknowledgesLast c then gives (received c byte) ackAt ack else gives (received c byte) nackAt nack)
+    else accepts (received c byte) ack
 
 -- 7. "own SlaveReceive 80h/88h, General Call E0h/E8h"
 unfoldable pub slaveIn : Controller → ℕ → Called → Outcome

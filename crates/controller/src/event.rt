@@ -52,7 +52,8 @@ impl Controller {
             10 => self.illegal_edge(),
             11 => self.data_held(),
             12 => self.clock_held(),
-            _ => self.idle(),
+            13 => self.idle(),
+            _ => self.refuse(Refusal::Unexpected),
         }
     }
 

@@ -17,10 +17,10 @@ ghost use Rattle.controller.specs.Transfer.{cursor, isLast, dataOut, add
 fn address_status(direction: Direction, nack: u8) -> u8
     ensures { λ r. ⌜ r ≡ addressStatus direction nack ⌝ }
 {
-    let refused = nack == 1;
+    let nacked = nack == 1;
     match direction {
-        Direction::Write => { if refused { 0x20 } else { 0x18 } }
-        Direction::Read => { if refused { 0x48 } else { 0x40 } }
+        Direction::Write => { if nacked { 0x20 } else { 0x18 } }
+        Direction::Read => { if nacked { 0x48 } else { 0x40 } }
     }
 }
 
@@ -65,8 +65,8 @@ impl Controller {
         let at = self.cursor() as usize;
         let buffer = self.buffer;
         let byte = buffer[at];
-        let refused = nack == 1;
-        if refused {
+        let nacked = nack == 1;
+        if nacked {
             return EventEffect::SentLast(broken, byte);
         }
         if self.is_last() {

@@ -40,7 +40,7 @@ answering c ending count events = record {
 unfoldable pub resultOf : JobResult → Result
 resultOf r = answering (r .controller) (r .ending) (r .count) (r .events)
 
--- a run that is over, as the code has it: what was noted, and how many bytes were sent
+-- Plumbing of the code, and no rule: a run that is over, as the code has it, with what was noted and how many bytes were sent
 unfoldable pub endedOf : Progress → ℕ → Ended
 endedOf p sent = record {
   controller = p .controller;

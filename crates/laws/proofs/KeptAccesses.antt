@@ -1,7 +1,7 @@
 -- Reads and writes of a sound record leave a sound one. Assumes nothing.
-use mathlib.Core.Bool.{Bool, true, false, true≢false}
+use mathlib.Core.Bool.{Bool, true, false, not, true≢false}
 use mathlib.Core.List.{List, [], _∷_}
-use mathlib.Core.Path.{_≡_, refl, sym, _∙_}
+use mathlib.Core.Path.{_≡_, refl, sym, ap, _∙_}
 use Prim.Native.Nat.{ℕ, _≤_, _+_, _%_}
 use native.Mathlib.Omega.{arith}
 use borrow.Author.Tests.{eqb-false, ltb-false, le-leb, lt-ltb}
@@ -210,5 +210,5 @@ write-kept c register value s =
     (split Kept (barsWrite c register) _ _ (λ e. refused c 3 s)
     (λ bars. split Kept (eqb register 0) _ _ (λ e. write-pointer c value s)
     (λ other. either (eqb register 1) _ _ (write-data c value s)
-    (either (eqb register 2) _ _ (write-at-pointer c value s (λ p. sym (if-false _ false _ (or-false _ _ other (and-no-right _ _ p))) ∙ bars))
+    (either (eqb register 2) _ _ (write-at-pointer c value s (λ p. sym (and-on _ _ (ap not (or-false _ _ other (and-no-right _ _ p)))) ∙ bars))
     (write-control c value s)))))

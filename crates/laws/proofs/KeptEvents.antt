@@ -168,7 +168,7 @@ byte-in c byte s =
 
 ruleset passing = (own-start, other-start, other-stop, own-stop, address-byte, byte-out, byte-in)
 
-ruleset events = (passing, address-lost, data-lost, illegal-edge, data-held, clock-held, idle-time, either)
+ruleset events = (passing, address-lost, data-lost, illegal-edge, data-held, clock-held, idle-time, refused, either)
 
 pub event-kept : (c : Controller) (number argument : ℕ) → sound c ≡ true → Kept (eventSound c number argument)
 unfolding eventSound

@@ -253,7 +253,8 @@ event-sound c b number argument r =
     (λ _. either c (eqb number 9) _ _ _ _ (data-lost c b)
     (either c (eqb number 10) _ _ _ _ (illegal-edge c b)
     (either c (eqb number 11) _ _ _ _ (data-held c b)
-    (either c (eqb number 12) _ _ _ _ (clock-held c b) (idle-time c b))))))))))))
+    (either c (eqb number 12) _ _ _ _ (clock-held c b)
+    (either c (eqb number 13) _ _ _ _ (idle-time c b) (refusing c b 8)))))))))))))
   where
     reading : (k : ℕ) → T (has (6 ∷ 8 ∷ []) k) → eqb number k ≡ true → among number (6 ∷ 8 ∷ []) ≡ true
     reading k t e = among-has number (6 ∷ 8 ∷ []) ∙ ap (has (6 ∷ 8 ∷ [])) (eqb-true number k e) ∙ is-true _ t

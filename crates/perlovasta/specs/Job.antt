@@ -10,7 +10,7 @@ use Rattle.perlovasta.specs.ReportBytes.{reportOfJob}
 
 -- its result, and the bytes that the destination, the out record and the report begin with after it, their rest as it was
 pub record JobCall : Type 0 where
-  pub done : Bool
+  pub reported : Bool
   pub handed : List ℕ
   pub sent : List ℕ
   pub told : List ℕ
@@ -22,10 +22,10 @@ requestReport kind address n payload destinationLength outLength script =
     else jobOf (jobFor kind address n) payload destinationLength outLength script freshEnabled
 
 unfoldable pub tells : Report → JobCall
-tells r = record { done = true; handed = r .handed; sent = r .sent; told = reportOfJob r }
+tells r = record { reported = true; handed = r .handed; sent = r .sent; told = reportOfJob r }
 
 -- the same with the length of the report. A report under 12 bytes: nothing is done
 unfoldable pub jobCall : ℕ → ℕ → ℕ → List ℕ → ℕ → ℕ → List ℕ → ℕ → JobCall
 jobCall kind address n payload destinationLength outLength script reportLength =
-    if ltb reportLength 12 then record { done = false; handed = []; sent = []; told = [] }
+    if ltb reportLength 12 then record { reported = false; handed = []; sent = []; told = [] }
     else tells (requestReport kind address n payload destinationLength outLength script)

@@ -12,7 +12,7 @@ use Rattle.perlovasta.specs.Log.{entryOf}
 
 -- its result, and the bytes that the log begins with after it, its rest as it was
 pub record TraceCall : Type 0 where
-  pub done : Bool
+  pub accepted : Bool
   pub logged : List ℕ
 
 -- not whole groups, or a group of a kind over 2
@@ -34,5 +34,5 @@ logOf c (kind ∷ place ∷ value ∷ rest) =
 -- the trace and the length of the log, which has to have eight bytes for each group
 unfoldable pub traceCall : List ℕ → ℕ → TraceCall
 traceCall trace logLength =
-    if badTrace trace or ltb logLength (8 * (length trace / 3)) then record { done = false; logged = [] }
-    else record { done = true; logged = logOf fresh trace }
+    if badTrace trace or ltb logLength (8 * (length trace / 3)) then record { accepted = false; logged = [] }
+    else record { accepted = true; logged = logOf fresh trace }

@@ -23,7 +23,7 @@ pub extern "C" fn perlovasta_job(
     script: &[u8],
     report: &mut [u8],
 ) -> bool
-    ensures done { λ r. ⌜ r ≡ (jobCall kind address n (now (payload .entry)) (length (now (destination .entry))) (length (now (out .entry))) (now (script .entry)) (length (now (report .entry)))) .done ⌝ }
+    ensures reported { λ r. ⌜ r ≡ (jobCall kind address n (now (payload .entry)) (length (now (destination .entry))) (length (now (out .entry))) (now (script .entry)) (length (now (report .entry)))) .reported ⌝ }
     ensures handed { λ _. ⌜ now (destination .exit) ≡ laid ((jobCall kind address n (now (payload .entry)) (length (now (destination .entry))) (length (now (out .entry))) (now (script .entry)) (length (now (report .entry)))) .handed) (now (destination .entry)) ⌝ }
     ensures sent { λ _. ⌜ now (out .exit) ≡ laid ((jobCall kind address n (now (payload .entry)) (length (now (destination .entry))) (length (now (out .entry))) (now (script .entry)) (length (now (report .entry)))) .sent) (now (out .entry)) ⌝ }
     ensures told { λ _. ⌜ now (report .exit) ≡ laid ((jobCall kind address n (now (payload .entry)) (length (now (destination .entry))) (length (now (out .entry))) (now (script .entry)) (length (now (report .entry)))) .told) (now (report .entry)) ⌝ }
@@ -41,7 +41,7 @@ pub extern "C" fn perlovasta_job(
 // whole groups of the kinds 0 to 2, or the log has no room: nothing is written then.
 #[no_mangle]
 pub extern "C" fn perlovasta_trace(trace: &[u8], log: &mut [u8]) -> bool
-    ensures done { λ r. ⌜ r ≡ (traceCall (now (trace .entry)) (length (now (log .entry)))) .done ⌝ }
+    ensures accepted { λ r. ⌜ r ≡ (traceCall (now (trace .entry)) (length (now (log .entry)))) .accepted ⌝ }
     ensures logged { λ _. ⌜ now (log .exit) ≡ laid ((traceCall (now (trace .entry)) (length (now (log .entry)))) .logged) (now (log .entry)) ⌝ }
 {
     if is_bad(trace) {

@@ -36,7 +36,7 @@ withEvents p x = progress (p .controller) (p .over) (p .ending) (p .count) x (p 
 abbrev pub withFetched : Progress → List ℕ → Progress
 withFetched p x = progress (p .controller) (p .over) (p .ending) (p .count) (p .events) x
 
--- the record and the pairs taken, as they are now
+-- the record and the pairs taken, as they are now: the code's loop holds these two beside the progress
 unfoldable pub reaching : Progress → Controller → ℕ → Progress
 reaching p c events = withEvents (withRecord p c) events
 

@@ -25,8 +25,8 @@ returns c =
     let out = now (s .out) in
     let report = now (s .report) in
     let call = jobCall (s .kind) (s .address) (s .n) (now (s .payload)) (length destination) (length out) (now (s .script)) (length report) in
-    let e : call ≡ record { done = false; handed = []; sent = []; told = [] } = if-true _ _ _ (c .if1 .taken) in (
-      sym (ap (λ (r : JobCall). r .done) e),
+    let e : call ≡ record { reported = false; handed = []; sent = []; told = [] } = if-true _ _ _ (c .if1 .taken) in (
+      sym (ap (λ (r : JobCall). r .reported) e),
       (
         sym (ap (λ (r : JobCall). laid (r .handed) destination) e),
         (
@@ -56,7 +56,7 @@ returns-2 c =
     let e : call ≡ tells request = if-false _ _ _ (c .before .before .before .before .before .before .before .before .before .before
     .before .if1 .left) in
     let ran = c .before .before .before .before .before .before .before .before .run-request in (
-      sym (ap (λ (r : JobCall). r .done) e),
+      sym (ap (λ (r : JobCall). r .reported) e),
       (
         ran .ensures .1 .0 ∙ sym (ap (λ (r : JobCall). laid (r .handed) destination) e),
         (

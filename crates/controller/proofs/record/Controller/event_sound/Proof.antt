@@ -57,23 +57,28 @@ unfolding eventSound if_then_else_
 returns-12 c = c .clock-held .ensures ∙ rw (c .before .match .keys12)
 
 returns-13 : tie.Need-returns-13
+unfolding eventSound if_then_else_
+returns-13 c = c .idle .ensures ∙ rw (c .before .match .keys13)
+
+returns-14 : tie.Need-returns-14
 unfolding eventSound
-returns-13 c =
+returns-14 c =
     let number = c .before .before .args .number in
     let rest = c .before .match .rest in
     search (
-      ne-eqb number 12 (rest .1),
-      ne-eqb number 11 (rest .0 .1),
-      ne-eqb number 10 (rest .0 .0 .1),
-      ne-eqb number 9 (rest .0 .0 .0 .1),
-      ne-eqb number 8 (rest .0 .0 .0 .0 .1),
-      ne-eqb number 7 (rest .0 .0 .0 .0 .0 .1),
-      ne-eqb number 6 (rest .0 .0 .0 .0 .0 .0 .1),
-      ne-eqb number 5 (rest .0 .0 .0 .0 .0 .0 .0 .1),
-      ne-eqb number 4 (rest .0 .0 .0 .0 .0 .0 .0 .0 .1),
-      ne-eqb number 3 (rest .0 .0 .0 .0 .0 .0 .0 .0 .0 .1),
-      ne-eqb number 2 (rest .0 .0 .0 .0 .0 .0 .0 .0 .0 .0 .1),
-      ne-eqb number 1 (rest .0 .0 .0 .0 .0 .0 .0 .0 .0 .0 .0 .1),
+      ne-eqb number 13 (rest .1),
+      ne-eqb number 12 (rest .0 .1),
+      ne-eqb number 11 (rest .0 .0 .1),
+      ne-eqb number 10 (rest .0 .0 .0 .1),
+      ne-eqb number 9 (rest .0 .0 .0 .0 .1),
+      ne-eqb number 8 (rest .0 .0 .0 .0 .0 .1),
+      ne-eqb number 7 (rest .0 .0 .0 .0 .0 .0 .1),
+      ne-eqb number 6 (rest .0 .0 .0 .0 .0 .0 .0 .1),
+      ne-eqb number 5 (rest .0 .0 .0 .0 .0 .0 .0 .0 .1),
+      ne-eqb number 4 (rest .0 .0 .0 .0 .0 .0 .0 .0 .0 .1),
+      ne-eqb number 3 (rest .0 .0 .0 .0 .0 .0 .0 .0 .0 .0 .1),
+      ne-eqb number 2 (rest .0 .0 .0 .0 .0 .0 .0 .0 .0 .0 .0 .1),
+      ne-eqb number 1 (rest .0 .0 .0 .0 .0 .0 .0 .0 .0 .0 .0 .0 .1),
       cases,
     )
 
@@ -81,6 +86,7 @@ pub event-sound-spec : {M : Type 1} → statement M
 event-sound-spec =
     tie.close
     (tie.spec
+    (λ c κs. search needs)
     (λ c κs. search needs)
     (λ c κs. search needs)
     (λ c κs. search needs)
@@ -106,4 +112,5 @@ event-sound-spec =
     returns-10
     returns-11
     returns-12
-    returns-13)
+    returns-13
+    returns-14)
