@@ -4,7 +4,7 @@ use mathlib.Core.Path.{refl}
 use Rattle.address.specs.Matching.{callsAll, callsOwn, callOf, matchOf}
 use Rattle.address.specs.Number.{bitOf, byteOf, addressOf, directionOf}
 use Rattle.cases.specs.AfterLost.{AfterLost, allShown}
-use Rattle.cases.specs.Starred.{StarredCases, lastShown, times}
+use Rattle.cases.specs.Starred.{StarredCases, lastShown, countdown, pairs}
 use Rattle.control.specs.Flags.{flagsOf, weighs, readsAs}
 use Rattle.control.specs.Turn.{kind, statusOf, edgeOf, calledOf}
 use Rattle.control.specs.Writing.{endOr, afterEdge, respondsAt, response}
@@ -35,7 +35,7 @@ unfolding if_then_else_ _and_ _or_ among callsAll callsOwn callOf matchOf bitOf 
     writeData atPointer stored writeAtPointer refuses accepts waitsFor interruptsAt changesStatus resetWith completesReset writePreset cursor isLast
     dataOut addressStatus byteOut acknowledgesLast received dataIn slaveIn byteIn badLength badAddress lent malformed ready closes breaks
     sending taking run starts handsUp reports declines jobOf put reads countOf jobTable starting fetchOne fetch readTimes does doesAll
-    follows performs serve lastShown times allShown
+    follows performs serve lastShown countdown pairs allShown
 computed = (refl, refl)
 
 pub starred : StarredCases

@@ -62,59 +62,64 @@ pub record Case : Type 0 where
 abbrev pub outcome : Case → Shown
 outcome k = lastShown (k .given) nothing fresh
 
--- the byte pair so many times
-unfoldable pub times : ℕ → ℕ → ℕ → List ℕ
-times zero number argument = []
-times (suc n) number argument = number ∷ argument ∷ times n number argument
+-- so many bytes, no two alike: n, n - 1 and so on, down to 1
+unfoldable pub countdown : ℕ → List ℕ
+countdown zero = []
+countdown (suc n) = suc n ∷ countdown n
+
+-- this event with each of these arguments
+unfoldable pub pairs : ℕ → List ℕ → List ℕ
+pairs number [] = []
+pairs number (argument ∷ arguments) = number ∷ argument ∷ pairs number arguments
 
 -- a fresh controller is enabled by 40h
-abbrev enabling : Action
-enabling = write 3 0x40
+abbrev enable : Action
+enable = write 3 0x40
 
 -- a) "read of 1 from 50h, pairs 01 00, 06 00, 07 5C, 04 00: answer 0, out A1, in 5C, events 4"
 abbrev pub caseA : Case
 caseA = record {
-  given = enabling ∷ job Read 0x50 1 [] (0x01 ∷ 0x00 ∷ 0x06 ∷ 0x00 ∷ 0x07 ∷ 0x5C ∷ 0x04 ∷ 0x00 ∷ []) ∷ [];
+  given = enable ∷ job Read 0x50 1 [] (0x01 ∷ 0x00 ∷ 0x06 ∷ 0x00 ∷ 0x07 ∷ 0x5C ∷ 0x04 ∷ 0x00 ∷ []) ∷ [];
   shows = ran 0 1 4 (0xA1 ∷ []) (0x5C ∷ []) false;
 }
 
 -- b) "the same with 06 01 and then 04 00: 23, in empty, events 3"
 abbrev pub caseB : Case
 caseB = record {
-  given = enabling ∷ job Read 0x50 1 [] (0x01 ∷ 0x00 ∷ 0x06 ∷ 0x01 ∷ 0x04 ∷ 0x00 ∷ []) ∷ [];
+  given = enable ∷ job Read 0x50 1 [] (0x01 ∷ 0x00 ∷ 0x06 ∷ 0x01 ∷ 0x04 ∷ 0x00 ∷ []) ∷ [];
   shows = ran 23 0 3 (0xA1 ∷ []) [] false;
 }
 
 -- c) "write of 2, first data NACKed: 24, count 1"
 abbrev pub caseC : Case
 caseC = record {
-  given = enabling ∷ job Write 0x50 2 (0x11 ∷ 0x22 ∷ []) (0x01 ∷ 0x00 ∷ 0x06 ∷ 0x00 ∷ 0x06 ∷ 0x01 ∷ 0x04 ∷ 0x00 ∷ []) ∷ [];
+  given = enable ∷ job Write 0x50 2 (0x11 ∷ 0x22 ∷ []) (0x01 ∷ 0x00 ∷ 0x06 ∷ 0x00 ∷ 0x06 ∷ 0x01 ∷ 0x04 ∷ 0x00 ∷ []) ∷ [];
   shows = ran 24 1 4 (0xA0 ∷ 0x11 ∷ []) [] false;
 }
 
--- d) "n 68 can be done": a read, and a write
+-- d) "n 68 can be done": a read, and a write, of 68 different bytes
 abbrev pub caseDRead : Case
 caseDRead = record {
-  given = enabling ∷ job Read 0x50 68 [] (0x01 ∷ 0x00 ∷ 0x06 ∷ 0x00 ∷ (times 68 0x07 0x5C ++ (0x04 ∷ 0x00 ∷ []))) ∷ [];
-  shows = ran 0 68 71 (0xA1 ∷ []) (replicate 68 0x5C) false;
+  given = enable ∷ job Read 0x50 68 [] (0x01 ∷ 0x00 ∷ 0x06 ∷ 0x00 ∷ (pairs 0x07 (countdown 68) ++ (0x04 ∷ 0x00 ∷ []))) ∷ [];
+  shows = ran 0 68 71 (0xA1 ∷ []) (countdown 68) false;
 }
 
 abbrev pub caseDWrite : Case
 caseDWrite = record {
-  given = enabling ∷ job Write 0x50 68 (replicate 68 0x33) (0x01 ∷ 0x00 ∷ 0x06 ∷ 0x00 ∷ (times 68 0x06 0x00 ++ (0x04 ∷ 0x00 ∷ []))) ∷ [];
-  shows = ran 0 68 71 (0xA0 ∷ replicate 68 0x33) [] false;
+  given = enable ∷ job Write 0x50 68 (countdown 68) (0x01 ∷ 0x00 ∷ 0x06 ∷ 0x00 ∷ (pairs 0x06 (replicate 68 0x00) ++ (0x04 ∷ 0x00 ∷ []))) ∷ [];
+  shows = ran 0 68 71 (0xA0 ∷ countdown 68) [] false;
 }
 
 -- e) "n 0" and f) "n 69 are 21": the data are lent, so that n alone is wrong
 abbrev pub caseE : Case
-caseE = record { given = enabling ∷ job Write 0x50 0 [] [] ∷ []; shows = ran 21 0 0 [] [] false }
+caseE = record { given = enable ∷ job Write 0x50 0 [] [] ∷ []; shows = ran 21 0 0 [] [] false }
 
 abbrev pub caseF : Case
-caseF = record { given = enabling ∷ job Write 0x50 69 (replicate 69 0x33) [] ∷ []; shows = ran 21 0 0 [] [] false }
+caseF = record { given = enable ∷ job Write 0x50 69 (replicate 69 0x33) [] ∷ []; shows = ran 21 0 0 [] [] false }
 
 -- g) "empty script: 27, STA left 1"
 abbrev pub caseG : Case
-caseG = record { given = enabling ∷ job Read 0x50 1 [] [] ∷ []; shows = ran 27 0 0 [] [] true }
+caseG = record { given = enable ∷ job Read 0x50 1 [] [] ∷ []; shows = ran 27 0 0 [] [] true }
 
 -- h) "BC 0 refused 6": I2CCOUNT 00h, and 41h at 18h
 abbrev pub caseH : Case
@@ -127,9 +132,9 @@ caseH = record {
 abbrev pub caseI : Case
 caseI = record { given = write 3 0xC0 ∷ event 2 0 ∷ event 5 0x00 ∷ []; shows = accessed 0 Busy }
 
--- j) "01h with own address 0 gives Busy": I2CADR 00h, AA 1
+-- j) "01h with own address 0 gives Busy": I2CADR 01h, so that GC is 1 and 01h would show if it were taken for a General Call; AA 1
 abbrev pub caseJ : Case
-caseJ = record { given = write 0 0x01 ∷ write 2 0x00 ∷ write 3 0xC0 ∷ event 2 0 ∷ event 5 0x01 ∷ []; shows = accessed 0 Busy }
+caseJ = record { given = write 0 0x01 ∷ write 2 0x01 ∷ write 3 0xC0 ∷ event 2 0 ∷ event 5 0x01 ∷ []; shows = accessed 0 Busy }
 
 -- k) "event 8 with an equal byte is refused 8": A0h is the byte in Address
 abbrev pub caseK : Case
