@@ -1,7 +1,10 @@
--- "The value returned is 0 and the whole record stays": a refused access or event changes nothing. Assumes nothing.
+-- "The value returned is 0 and the whole record stays": a refused access or event changes nothing; and which numbers a read, a write and an event can be
+-- given. Assumes nothing.
 use mathlib.Core.Bool.{Bool, true, false}
-use mathlib.Core.Path.{_≡_, refl}
+use mathlib.Core.List.{List, [], _∷_}
+use mathlib.Core.Path.{_≡_, refl, _∙_}
 use Prim.Native.Nat.{ℕ}
+use lib.Dec.{T}
 use Rattle.address.specs.declared.matching.Match.the-variants.{Own, General, Nothing}
 use Rattle.address.specs.declared.matching.Match.{Match}
 use Rattle.address.specs.declared.number.Direction.the-variants.{Write, Read}
@@ -22,121 +25,133 @@ use Rattle.controller.specs.Reply.{Outcome, refuses, accepts, waitsFor, interru
 use Rattle.controller.specs.Reset.{writePreset}
 use Rattle.controller.specs.Transfer.{dataOut, byteOut, dataIn, slaveIn, byteIn}
 use Rattle.controller.specs.declared.record.Controller.{Controller}
-use Rattle.notation.specs.Choice.{if_then_else_}
+use Rattle.notation.proofs.Among.{has, is-true, among-has}
+use Rattle.notation.specs.Choice.{if_then_else_, among}
 
--- an outcome that, where it refuses, keeps the record and has the value 0
-pub record Stays (c : Controller) (o : Outcome) : Type 0 where
+-- an outcome that is accepted or refused with one of these numbers and, where it is refused, keeps the record and has the value 0
+pub record Stays (c : Controller) (numbers : List ℕ) (o : Outcome) : Type 0 where
+  pub numbered : among (o .refused) (0 ∷ numbers) ≡ true
   pub record-kept : (o .refused ≡ 0 → ⊥) → o .next ≡ c
   pub value-zero : (o .refused ≡ 0 → ⊥) → o .value ≡ 0
 
+-- the lines of the table that an event, a read and a write can meet
+abbrev pub ofEvent : List ℕ
+ofEvent = 1 ∷ 2 ∷ 10 ∷ 8 ∷ []
+
+abbrev pub ofRead : List ℕ
+ofRead = 1 ∷ 10 ∷ 9 ∷ 3 ∷ 7 ∷ []
+
+abbrev pub ofWrite : List ℕ
+ofWrite = 1 ∷ 10 ∷ 9 ∷ 3 ∷ 4 ∷ 5 ∷ 6 ∷ 7 ∷ []
+
 -- the two ends of every rule, and the choice between rules
-refused : (c : Controller) (n : ℕ) → Stays c (refuses c n)
+refused : (c : Controller) (ns : List ℕ) (n : ℕ) → T (has (0 ∷ ns) n) → Stays c ns (refuses c n)
 unfolding refuses
-refused c n = record { record-kept = λ h. refl; value-zero = λ h. refl }
+refused c ns n t = record { numbered = among-has n (0 ∷ ns) ∙ is-true _ t; record-kept = λ h. refl; value-zero = λ h. refl }
 
-accepted : (c d : Controller) (v : ℕ) → Stays c (accepts d v)
+accepted : (c d : Controller) (ns : List ℕ) (v : ℕ) → Stays c ns (accepts d v)
 unfolding accepts
-accepted c d v = record { record-kept = λ h. absurd (h refl); value-zero = λ h. absurd (h refl) }
+accepted c d ns v = record { numbered = among-has 0 (0 ∷ ns); record-kept = λ h. absurd (h refl); value-zero = λ h. absurd (h refl) }
 
-either : (c : Controller) (b : Bool) (x y : Outcome) → Stays c x → Stays c y → Stays c (if b then x else y)
+either : (c : Controller) (ns : List ℕ) (b : Bool) (x y : Outcome) → Stays c ns x → Stays c ns y → Stays c ns (if b then x else y)
 unfolding if_then_else_
-either c true x y p q = p
-either c false x y p q = q
+either c ns true x y p q = p
+either c ns false x y p q = q
 
-waiting : (c d : Controller) (t : Turn) (v : ℕ) → Stays c (waitsFor d t v)
+waiting : (c d : Controller) (ns : List ℕ) (t : Turn) (v : ℕ) → Stays c ns (waitsFor d t v)
 unfolding waitsFor
-waiting c d t v = accepted c _ v
+waiting c d ns t v = accepted c _ ns v
 
-interrupted : (c d : Controller) (s : ℕ) (e : Edge) (v : ℕ) → Stays c (interruptsAt d s e v)
+interrupted : (c d : Controller) (ns : List ℕ) (s : ℕ) (e : Edge) (v : ℕ) → Stays c ns (interruptsAt d s e v)
 unfolding interruptsAt
-interrupted c d s e v = accepted c _ v
+interrupted c d ns s e v = accepted c _ ns v
 
-status-changed : (c d : Controller) (s : ℕ) → Stays c (changesStatus d s)
+status-changed : (c d : Controller) (ns : List ℕ) (s : ℕ) → Stays c ns (changesStatus d s)
 unfolding changesStatus
-status-changed c d s = accepted c _ 0
+status-changed c d ns s = accepted c _ ns 0
 
-written : (c d : Controller) → Stays c (wrote d)
+written : (c d : Controller) (ns : List ℕ) → Stays c ns (wrote d)
 unfolding wrote
-written c d = accepted c _ 0
+written c d ns = accepted c _ ns 0
 
-ruleset ends = (refused, accepted, either, waiting, interrupted, status-changed, written)
+ruleset ends = (refused, accepted, either, waiting, interrupted, status-changed, written, tt)
 
-own-start : (c : Controller) → Stays c (ownStart c)
+own-start : (c : Controller) → Stays c ofEvent (ownStart c)
 unfolding ownStart
 own-start c = search ends
 
-other-start : (c : Controller) → Stays c (otherStart c)
+other-start : (c : Controller) → Stays c ofEvent (otherStart c)
 unfolding otherStart
 other-start c = search ends
 
-other-stop : (c : Controller) → Stays c (otherStop c)
+other-stop : (c : Controller) → Stays c ofEvent (otherStop c)
 unfolding otherStop
 other-stop c = search ends
 
-own-stop : (c : Controller) → Stays c (ownStop c)
+own-stop : (c : Controller) → Stays c ofEvent (ownStop c)
 unfolding ownStop
 own-stop c = search ends
 
-data-lost : (c : Controller) → Stays c (dataLost c)
+data-lost : (c : Controller) → Stays c ofEvent (dataLost c)
 unfolding dataLost
 data-lost c = search ends
 
-illegal-edge : (c : Controller) → Stays c (illegalEdge c)
+illegal-edge : (c : Controller) → Stays c ofEvent (illegalEdge c)
 unfolding illegalEdge
 illegal-edge c = search ends
 
-data-held : (c : Controller) → Stays c (dataHeld c)
+data-held : (c : Controller) → Stays c ofEvent (dataHeld c)
 unfolding dataHeld
 data-held c = search ends
 
-clock-held : (c : Controller) → Stays c (clockHeld c)
+clock-held : (c : Controller) → Stays c ofEvent (clockHeld c)
 unfolding clockHeld
 clock-held c = search ends
 
-idle-time : (c : Controller) → Stays c (idle c)
+idle-time : (c : Controller) → Stays c ofEvent (idle c)
 unfolding idle
 idle-time c = search ends
 
-address-found : (c : Controller) (m : Match) → Stays c (addressed c m)
+address-found : (c : Controller) (m : Match) → Stays c ofEvent (addressed c m)
 unfolding addressed
 address-found c General = search ends
 address-found c (Own Write) = search ends
 address-found c (Own Read) = search ends
 address-found c Nothing = search ends
 
-address-byte : (c : Controller) (byte : ℕ) → Stays c (addressByte c byte)
+address-byte : (c : Controller) (byte : ℕ) → Stays c ofEvent (addressByte c byte)
 unfolding addressByte
 address-byte c byte = search (address-found, ends)
 
-outbid-found : (c : Controller) (m : Match) → Stays c (outbid c m)
+outbid-found : (c : Controller) (m : Match) → Stays c ofEvent (outbid c m)
 unfolding outbid
 outbid-found c General = search ends
 outbid-found c (Own Write) = search ends
 outbid-found c (Own Read) = search ends
 outbid-found c Nothing = search ends
 
-address-lost : (c : Controller) (byte : ℕ) → Stays c (addressLost c byte)
+address-lost : (c : Controller) (byte : ℕ) → Stays c ofEvent (addressLost c byte)
 unfolding addressLost
 address-lost c byte = search (outbid-found, ends)
 
-data-out : (c : Controller) (nack broken done : ℕ) → Stays c (dataOut c nack broken done)
+data-out : (c : Controller) (nack broken done : ℕ) → Stays c ofEvent (dataOut c nack broken done)
 unfolding dataOut
 data-out c nack broken done = search ends
 
-byte-out : (c : Controller) (nack : ℕ) → Stays c (byteOut c nack)
+byte-out : (c : Controller) (nack : ℕ) → Stays c ofEvent (byteOut c nack)
 unfolding byteOut
 byte-out c nack = search (data-out, ends)
 
-data-in : (c : Controller) (byte taken ended : ℕ) → Stays c (dataIn c byte taken ended)
+data-in : (c : Controller) (byte taken ended : ℕ) → Stays c ofEvent (dataIn c byte taken ended)
 unfolding dataIn
 data-in c byte taken ended = search ends
 
-slave-in : (c : Controller) (byte : ℕ) (w : Called) → Stays c (slaveIn c byte w)
+slave-in : (c : Controller) (byte : ℕ) (w : Called) → Stays c ofEvent (slaveIn c byte w)
 unfolding slaveIn
 slave-in c byte called.Own = data-in c byte 0x80 0x88
 slave-in c byte called.General = data-in c byte 0xE0 0xE8
 
-byte-in : (c : Controller) (byte : ℕ) → Stays c (byteIn c byte)
+byte-in : (c : Controller) (byte : ℕ) → Stays c ofEvent (byteIn c byte)
 unfolding byteIn
 byte-in c byte = search (data-in, slave-in, ends)
 
@@ -144,64 +159,64 @@ ruleset passing = (own-start, other-start, other-stop, own-stop, address-byte, b
 
 ruleset events = (passing, address-lost, data-lost, illegal-edge, data-held, clock-held, idle-time, ends)
 
-event-sound : (c : Controller) (number argument : ℕ) → Stays c (eventSound c number argument)
+event-sound : (c : Controller) (number argument : ℕ) → Stays c ofEvent (eventSound c number argument)
 unfolding eventSound
 event-sound c number argument = search events depth 20
 
-write-preset : (c : Controller) (value : ℕ) → Stays c (writePreset c value)
+write-preset : (c : Controller) (value : ℕ) → Stays c ofWrite (writePreset c value)
 unfolding writePreset
 write-preset c value = search ends
 
-write-pointer : (c : Controller) (value : ℕ) → Stays c (writePointer c value)
+write-pointer : (c : Controller) (value : ℕ) → Stays c ofWrite (writePointer c value)
 unfolding writePointer
 write-pointer c value = search ends
 
-read-data : (c : Controller) → Stays c (readData c)
+read-data : (c : Controller) → Stays c ofRead (readData c)
 unfolding readData
 read-data c = search ends
 
-write-data : (c : Controller) (value : ℕ) → Stays c (writeData c value)
+write-data : (c : Controller) (value : ℕ) → Stays c ofWrite (writeData c value)
 unfolding writeData
 write-data c value = search ends
 
-write-at-pointer : (c : Controller) (value : ℕ) → Stays c (writeAtPointer c value)
+write-at-pointer : (c : Controller) (value : ℕ) → Stays c ofWrite (writeAtPointer c value)
 unfolding writeAtPointer
 write-at-pointer c value = search (write-preset, ends)
 
-control-written : (c : Controller) (k : Control) (t : Turn) → Stays c (controlled c k t)
+control-written : (c : Controller) (k : Control) (t : Turn) → Stays c ofWrite (controlled c k t)
 unfolding controlled
 control-written c k t = search ends
 
-enabling : (c : Controller) (k : Control) (r : Response) → Stays c (enabled c k r)
+enabling : (c : Controller) (k : Control) (r : Response) → Stays c ofWrite (enabled c k r)
 unfolding enabled
 enabling c k Unlisted = search ends
 enabling c k (Next t) = search (control-written, ends)
 
-write-flags : (c : Controller) (k : Control) → Stays c (writeFlags c k)
+write-flags : (c : Controller) (k : Control) → Stays c ofWrite (writeFlags c k)
 unfolding writeFlags
 write-flags c k = search (enabling, control-written, ends)
 
-write-control : (c : Controller) (value : ℕ) → Stays c (writeControl c value)
+write-control : (c : Controller) (value : ℕ) → Stays c ofWrite (writeControl c value)
 unfolding writeControl
 write-control c value = search write-flags
 
-read-sound : (c : Controller) (register : ℕ) → Stays c (readSound c register)
+read-sound : (c : Controller) (register : ℕ) → Stays c ofRead (readSound c register)
 unfolding readSound
 read-sound c register = search (read-data, ends) depth 12
 
-write-sound : (c : Controller) (register value : ℕ) → Stays c (writeSound c register value)
+write-sound : (c : Controller) (register value : ℕ) → Stays c ofWrite (writeSound c register value)
 unfolding writeSound
 write-sound c register value = search (write-pointer, write-data, write-at-pointer, write-control, ends) depth 12
 
 -- The three laws: every read, every write and every event, of any record whatever.
-pub read-stays : (c : Controller) (register : ℕ) → Stays c (readOf c register)
+pub read-stays : (c : Controller) (register : ℕ) → Stays c ofRead (readOf c register)
 unfolding readOf
 read-stays c register = search (read-sound, ends)
 
-pub write-stays : (c : Controller) (register value : ℕ) → Stays c (writeOf c register value)
+pub write-stays : (c : Controller) (register value : ℕ) → Stays c ofWrite (writeOf c register value)
 unfolding writeOf
 write-stays c register value = search (write-sound, ends)
 
-pub event-stays : (c : Controller) (number argument : ℕ) → Stays c (eventOf c number argument)
+pub event-stays : (c : Controller) (number argument : ℕ) → Stays c ofEvent (eventOf c number argument)
 unfolding eventOf
 event-stays c number argument = search (event-sound, ends) depth 8

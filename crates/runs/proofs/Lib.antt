@@ -18,3 +18,4 @@ pub mod LostJobs
 pub mod NoneBegins
 pub mod ComesFrom
 pub mod ReasonLeft
+pub mod Demand1

@@ -1,3 +1,4 @@
 -- Laws of one run: what they say.
+pub mod Demand1
 pub mod OneRun
 pub mod ReasonLeft
