@@ -4,3 +4,4 @@ pub mod Twin
 pub mod TwoRuns
 pub mod TwoJobs
 pub mod Theorem
+pub mod CallersMemory

@@ -29,9 +29,9 @@ use Rattle.noninterference.specs.OldBytes.{
   indptr,
   register2,
   i2ccon,
-  otherStart,
-  otherStop,
-  addressByte,
+  anothersStart,
+  anothersStop,
+  anothersAddress,
   Compared,
   ofStep,
   answered,
@@ -81,9 +81,9 @@ unfolding handsUp bitOf
 hands-up job answer xs e r = if-true _ _ _ (and-true _ _ (eq-eqb answer 0 e) (ap (λ (d : Direction). eqb (bitOf d) 1) r))
 
 -- What two reports have in common.
-record ReportSame (r r′ : Report) : Type 0 where
-  twin : Twin (r .result .next) (r′ .result .next)
-  seen : ofJob r .seen ≡ ofJob r′ .seen
+pub record ReportSame (r r′ : Report) : Type 0 where
+  pub twin : Twin (r .result .next) (r′ .result .next)
+  pub seen : ofJob r .seen ≡ ofJob r′ .seen
 
 declines-same : (c c′ : Controller) (answer : ℕ) → Twin c c′ → ReportSame (declines c answer) (declines c′ answer)
 unfolding declines
@@ -146,7 +146,7 @@ same-if false true x x′ y y′ e f g = absurd (false≢true e)
 same-if false false x x′ y y′ e f g = g refl
 
 -- A job: the same report on both sides, and what it hands up was carried.
-request-same : (q : Request) (c c′ : Controller) → Twin c c′ → ReportSame (reportOf q c) (reportOf q c′)
+pub request-same : (q : Request) (c c′ : Controller) → Twin c c′ → ReportSame (reportOf q c) (reportOf q c′)
 unfolding jobOf
 request-same q c c′ t =
     same-if _ _ _ _ _ _ refl (λ _. declines-same c c′ 21 t)
@@ -196,9 +196,9 @@ step-same (resetPin argument) c c′ t = event-same c c′ 14 argument (among-ha
 step-same (indptr value) c c′ t = write-same c c′ 0 value t
 step-same (register2 value) c c′ t = write-same c c′ 2 value t
 step-same (i2ccon value) c c′ t = write-same c c′ 3 value t
-step-same (otherStart argument) c c′ t = event-same c c′ 2 argument (among-has 2 (6 ∷ 8 ∷ [])) t
-step-same (otherStop argument) c c′ t = event-same c c′ 3 argument (among-has 3 (6 ∷ 8 ∷ [])) t
-step-same (addressByte byte) c c′ t = event-same c c′ 5 byte (among-has 5 (6 ∷ 8 ∷ [])) t
+step-same (anothersStart argument) c c′ t = event-same c c′ 2 argument (among-has 2 (6 ∷ 8 ∷ [])) t
+step-same (anothersStop argument) c c′ t = event-same c c′ 3 argument (among-has 3 (6 ∷ 8 ∷ [])) t
+step-same (anothersAddress byte) c c′ t = event-same c c′ 5 byte (among-has 5 (6 ∷ 8 ∷ [])) t
 
 step-carries : (i : Item) (c : Controller) → length (c .buffer) ≡ 68 → Carries i c
 step-carries (runJob q) c l = job-carries q c l
@@ -206,9 +206,9 @@ step-carries (resetPin argument) c l = tt
 step-carries (indptr value) c l = tt
 step-carries (register2 value) c l = tt
 step-carries (i2ccon value) c l = tt
-step-carries (otherStart argument) c l = tt
-step-carries (otherStop argument) c l = tt
-step-carries (addressByte byte) c l = tt
+step-carries (anothersStart argument) c l = tt
+step-carries (anothersStop argument) c l = tt
+step-carries (anothersAddress byte) c l = tt
 
 list-same : (items : List Item) (c c′ : Controller) → Twin c c′ → NoOldBytes items c c′
 unfolding observe
@@ -223,7 +223,7 @@ list-same (i ∷ items) c c′ t =
     }
 
 -- records that are equal item by item but for the places are twins
-alike-twins : (c c′ : Controller) → AlikeButForPlaces c c′ → Twin c c′
+pub alike-twins : (c c′ : Controller) → AlikeButForPlaces c c′ → Twin c c′
 alike-twins c c′ a = record {
   rest = simp (a .hand, a .moved, a .pointer, a .armed, a .registers, a .control, a .turn, a .reason);
   places = a .bufferLength;

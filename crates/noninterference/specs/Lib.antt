@@ -1,2 +1,3 @@
 -- Demand 3, as document 01 spells it out.
 pub mod OldBytes
+pub mod CallersMemory

@@ -42,9 +42,9 @@ pub data Item : Type 0 where
   -- "an enabling write is any I2CCON write with ENSIO 1": a byte written to I2CCON, with ENSIO 1 or not
   i2ccon : ℕ → Item
   -- "other masters' STARTs, STOPs and address bytes are events 2, 3 and 5", each with its argument
-  otherStart : ℕ → Item
-  otherStop : ℕ → Item
-  addressByte : ℕ → Item
+  anothersStart : ℕ → Item
+  anothersStop : ℕ → Item
+  anothersAddress : ℕ → Item
 
 -- What is compared of what an item answers.
 pub data Seen : Type 0 where
@@ -78,9 +78,9 @@ step (resetPin argument) c = ofAccess (eventOf c 14 argument)
 step (indptr value) c = ofAccess (writeOf c 0 value)
 step (register2 value) c = ofAccess (writeOf c 2 value)
 step (i2ccon value) c = ofAccess (writeOf c 3 value)
-step (otherStart argument) c = ofAccess (eventOf c 2 argument)
-step (otherStop argument) c = ofAccess (eventOf c 3 argument)
-step (addressByte byte) c = ofAccess (eventOf c 5 byte)
+step (anothersStart argument) c = ofAccess (eventOf c 2 argument)
+step (anothersStop argument) c = ofAccess (eventOf c 3 argument)
+step (anothersAddress byte) c = ofAccess (eventOf c 5 byte)
 
 -- What is compared of one item: what it answered, and why a move ended in the record that it left. Document 02, request 8: "Demand 3 covers it:
 -- after each one on the list it is the same in both records."
@@ -109,9 +109,9 @@ Carries (resetPin argument) c = Unit {0}
 Carries (indptr value) c = Unit {0}
 Carries (register2 value) c = Unit {0}
 Carries (i2ccon value) c = Unit {0}
-Carries (otherStart argument) c = Unit {0}
-Carries (otherStop argument) c = Unit {0}
-Carries (addressByte byte) c = Unit {0}
+Carries (anothersStart argument) c = Unit {0}
+Carries (anothersStop argument) c = Unit {0}
+Carries (anothersAddress byte) c = Unit {0}
 
 -- of every item, each given the record that the one before left
 abbrev pub AllCarry : List Item → Controller → Type 0
