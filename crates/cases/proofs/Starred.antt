@@ -1,9 +1,10 @@
 -- Each starred case shows what document 01 says: one equation over the list of them, by computing both sides. In the same way the list of jobs
--- after a lost one shows what request 2 says. Assumes nothing.
+-- after a lost one shows what request 2 says, and twelve short jobs show the statuses that a job meets. Assumes nothing.
 use mathlib.Core.Path.{refl}
 use Rattle.address.specs.Matching.{callsAll, callsOwn, callOf, matchOf}
 use Rattle.address.specs.Number.{bitOf, byteOf, addressOf, directionOf}
 use Rattle.cases.specs.AfterLost.{AfterLost, allShown}
+use Rattle.cases.specs.Statuses.{EachStatusMet, lastOf}
 use Rattle.cases.specs.Starred.{StarredCases, lastShown, countdown, pairs}
 use Rattle.control.specs.Flags.{flagsOf, weighs, readsAs}
 use Rattle.control.specs.Turn.{kind, statusOf, edgeOf, calledOf}
@@ -20,6 +21,7 @@ use Rattle.controller.specs.Reset.{resetWith, completesReset, writePreset}
 use Rattle.controller.specs.Transfer.{cursor, isLast, dataOut, addressStatus, byteOut, acknowledgesLast, received, dataIn, slaveIn, byteIn}
 use Rattle.driver.specs.Run.{closes, breaks, sending, taking, run, handsUp, reports, declines, jobOf}
 use Rattle.notation.specs.Choice.{if_then_else_, _and_, _or_, among}
+use Rattle.runs.specs.Accesses.{shown, met}
 use Rattle.service.specs.Act.{put, reads, fetchOne, fetch, readTimes, does, doesAll, follows, performs}
 use Rattle.service.specs.JobSteps.{countOf}
 use Rattle.service.specs.JobTable.{jobTable}
@@ -27,7 +29,7 @@ use Rattle.service.specs.Progress.{starting}
 use Rattle.service.specs.Request.{badLength, badAddress, lent, malformed, ready}
 use Rattle.service.specs.Serve.{starts, serve}
 
-computed : StarredCases × AfterLost
+computed : StarredCases × AfterLost × EachStatusMet
 unfolding if_then_else_ _and_ _or_ among callsAll callsOwn callOf matchOf bitOf byteOf addressOf directionOf flagsOf weighs readsAs kind statusOf
     edgeOf calledOf endOr afterEdge respondsAt response indirectAt barsRead barsWrite readSound readOf writeSound writeOf ownStart
     otherStart otherStop ownStop addressed addressByte outbid addressLost dataLost illegalEdge dataHeld clockHeld idle badArgument
@@ -35,11 +37,14 @@ unfolding if_then_else_ _and_ _or_ among callsAll callsOwn callOf matchOf bitOf 
     writeData atPointer stored writeAtPointer refuses accepts waitsFor interruptsAt changesStatus resetWith completesReset writePreset cursor isLast
     dataOut addressStatus byteOut acknowledgesLast received dataIn slaveIn byteIn badLength badAddress lent malformed ready closes breaks
     sending taking run starts handsUp reports declines jobOf put reads countOf jobTable starting fetchOne fetch readTimes does doesAll
-    follows performs serve lastShown countdown pairs allShown
-computed = (refl, refl)
+    follows performs serve lastShown countdown pairs allShown shown met lastOf
+computed = (refl, refl, refl)
 
 pub starred : StarredCases
 starred = computed .0
 
 pub after-lost : AfterLost
 after-lost = computed .1
+
+pub each-status-met : EachStatusMet
+each-status-met = computed .2

@@ -1,6 +1,6 @@
 -- Which turns a rule lists, from what an arm of a `match` on the turn knows. An arm of one turn knows that turn's tag, an arm of several
 -- and the default know that the tag is one of a list. Assumes nothing.
-use mathlib.Core.Bool.{Bool, true, false, true≢false, false≢true}
+use mathlib.Core.Bool.{Bool, true, false, true≢false}
 use mathlib.Core.List.{List, [], _∷_}
 use mathlib.Core.Path.{_≡_, refl, sym, ap, _∙_}
 use Prim.Native.Nat.{ℕ}
@@ -69,18 +69,23 @@ status-idle Restarting e = refl
 pub idle-not-38h : (t : Turn) → among (kind t) (host ∷ []) ≡ false → at38h t ≡ false
 idle-not-38h t e = ap (λ (status : ℕ). eqb status 0x38) (status-idle t e)
 
--- status 38h is Host, since out of Host the status is F8h
-pub at38h-host : (t : Turn) → at38h t ≡ true → t ≡ Host 0x38 (edgeOf t)
+-- any other status is Host's
+pub hosted-turn : (t : Turn) → eqb (statusOf t) 0xF8 ≡ false → t ≡ Host (statusOf t) (edgeOf t)
 unfolding statusOf edgeOf
-at38h-host Off e = absurd (false≢true e)
-at38h-host (Host s d) e = ap (λ (n : ℕ). Host n d) (eqb-true s 0x38 e)
-at38h-host Free e = absurd (false≢true e)
-at38h-host Busy e = absurd (false≢true e)
-at38h-host Listen e = absurd (false≢true e)
-at38h-host Address e = absurd (false≢true e)
-at38h-host Send e = absurd (false≢true e)
-at38h-host Receive e = absurd (false≢true e)
-at38h-host (SlaveReceive w) e = absurd (false≢true e)
-at38h-host SlaveSend e = absurd (false≢true e)
-at38h-host Stopping e = absurd (false≢true e)
-at38h-host Restarting e = absurd (false≢true e)
+hosted-turn Off e = absurd (true≢false e)
+hosted-turn (Host s d) e = refl
+hosted-turn Free e = absurd (true≢false e)
+hosted-turn Busy e = absurd (true≢false e)
+hosted-turn Listen e = absurd (true≢false e)
+hosted-turn Address e = absurd (true≢false e)
+hosted-turn Send e = absurd (true≢false e)
+hosted-turn Receive e = absurd (true≢false e)
+hosted-turn (SlaveReceive w) e = absurd (true≢false e)
+hosted-turn SlaveSend e = absurd (true≢false e)
+hosted-turn Stopping e = absurd (true≢false e)
+hosted-turn Restarting e = absurd (true≢false e)
+
+pub at38h-host : (t : Turn) → at38h t ≡ true → t ≡ Host 0x38 (edgeOf t)
+at38h-host t e =
+    let s = eqb-true (statusOf t) 0x38 e in
+    hosted-turn t (ap (λ (n : ℕ). eqb n 0xF8) s) ∙ ap (λ (n : ℕ). Host n (edgeOf t)) s

@@ -19,12 +19,12 @@ use Rattle.controller.specs.Event.{badArgument, eventSound, eventOf}
 use Rattle.controller.specs.Record.{sound}
 use Rattle.controller.specs.Reply.{Outcome, refuses, accepts, waitsFor, interruptsAt}
 use Rattle.controller.specs.declared.record.Controller.{Controller}
-use Rattle.laws.specs.Addresses.{ByteBack, Tells, MatchTells, MatchStays}
+use Rattle.laws.specs.Addresses.{LeadBack, Tells, MatchTells, MatchStays}
 use Rattle.notation.proofs.Cases.{if-true, if-false, and-right, split}
 use Rattle.notation.specs.Choice.{if_then_else_, _and_, _or_}
 
 -- the address of an address byte is the address it was made of
-pub address-back : (a : Address) (d : Direction) → a .0 < 128 → addressOf (byteOf a d) ≡ a
+address-back : (a : Address) (d : Direction) → a .0 < 128 → addressOf (byteOf a d) ≡ a
 unfolding byteOf bitOf addressOf
 address-back a Write h = ap {B = Address} (λ (n : ℕ). record { 0 = n }) (omega arith)
 address-back a Read h = ap {B = Address} (λ (n : ℕ). record { 0 = n }) (omega arith)
@@ -46,10 +46,13 @@ bit-back zero h = refl
 bit-back (suc zero) h = refl
 bit-back (suc (suc r)) h = absurd (omega (arith, h))
 
-pub byte-back : ByteBack
+byte-back : (byte : AddressByte) → byte .0 < 256 → byteOf (addressOf byte) (directionOf byte) ≡ byte
 unfolding byteOf addressOf directionOf
 byte-back byte h =
     ap {B = AddressByte} (λ (n : ℕ). record { 0 = n }) (omega (arith, h, bit-back (byte .0 % 2) (omega arith)))
+
+pub lead-back : LeadBack
+lead-back = record { byte = byte-back; address = address-back; direction = direction-back }
 
 -- with AA 0 nothing matches, General Call neither
 pub silent-without-aa : (i2cadr : ℕ) (byte : AddressByte) → matchOf i2cadr false byte .call ≡ Nothing

@@ -11,7 +11,7 @@ use Rattle.control.specs.Turn.{host, wireTurns, kind, statusOf}
 use Rattle.controller.proofs.SoundParts.{parts}
 use Rattle.controller.specs.Access.{indirectAt, barsRead, readSound, readOf}
 use Rattle.controller.specs.Record.{interrupts, givenStatuses, hostSound, sound}
-use Rattle.controller.specs.Reply.{accepts}
+use Rattle.controller.specs.Reply.{Outcome, accepts}
 use Rattle.controller.specs.declared.record.Controller.{Controller}
 use Rattle.notation.proofs.Among.{same, is-same, has, among-has}
 use Rattle.notation.proofs.Cases.{if-true, and-no-right}
@@ -78,10 +78,14 @@ given-not-idle x e = step (eqb x 0xF8) refl
     step true q = absurd (true≢false (sym e ∙ among-has x givenStatuses ∙ ap (has givenStatuses) (eqb-true x 0xF8 q)))
     step false q = q
 
--- what register 0 reads of a sound record
+-- register 0 of a sound record is read, and shows the turn's status
+pub status-accepted : (c : Controller) → sound c ≡ true → readOf c 0 ≡ accepts c (statusOf (c .turn))
+unfolding readOf readSound indirectAt barsRead if_then_else_ _and_
+status-accepted c s = rw (s, and-no-right (among (kind (c .turn)) wireTurns) false refl)
+
 pub status-reads : (c : Controller) → sound c ≡ true → (readOf c 0) .value ≡ statusOf (c .turn)
-unfolding readOf readSound indirectAt barsRead accepts if_then_else_ _and_
-status-reads c s = rw (s, and-no-right (among (kind (c .turn)) wireTurns) false refl)
+unfolding accepts
+status-reads c s = ap (λ (o : Outcome). o .value) (status-accepted c s)
 
 idle-status : (c : Controller) → sound c ≡ true → eqb (statusOf (c .turn)) 0xF8 ≡ not (interrupts c)
 unfolding hostSound

@@ -7,15 +7,20 @@ use Rattle.address.specs.Matching.{ownAddress, matchOf}
 use Rattle.address.specs.Number.{byteOf, addressOf, directionOf}
 use Rattle.address.specs.declared.matching.AddressMatch.{AddressMatch}
 use Rattle.address.specs.declared.matching.Match.the-variants.{Own, General}
+use Rattle.address.specs.declared.number.Address.{Address}
 use Rattle.address.specs.declared.number.AddressByte.{AddressByte}
 use Rattle.address.specs.declared.number.Direction.{Direction}
 use Rattle.controller.specs.Condition.{matchOnBus}
 use Rattle.controller.specs.Event.{eventOf}
 use Rattle.controller.specs.declared.record.Controller.{Controller}
 
--- address and direction of a byte make that byte again
-abbrev pub ByteBack : Type 0
-ByteBack = (byte : AddressByte) → byte .0 < 256 → byteOf (addressOf byte) (directionOf byte) ≡ byte
+-- Address and address byte lead to each other, both ways.
+pub record LeadBack : Type 0 where
+  -- address and direction of a byte make that byte again
+  pub byte : (byte : AddressByte) → byte .0 < 256 → byteOf (addressOf byte) (directionOf byte) ≡ byte
+  -- a seven-bit address and a direction make a byte of which they are address and direction
+  pub address : (address : Address) (direction : Direction) → address .0 < 128 → addressOf (byteOf address direction) ≡ address
+  pub direction : (address : Address) (direction : Direction) → directionOf (byteOf address direction) ≡ direction
 
 -- What an answer of the match says of the byte. "own address with direction, General Call, or none, each with the byte's seven-bit address"
 -- (document 02, request 5). When each is answered, `callOf` says.

@@ -1,19 +1,17 @@
 -- Demand 3 in the caller's memory: `callers-memory`. What it says is in specs/CallersMemory.antt. Assumes nothing.
-use mathlib.Core.List.{List, [], _++_}
+use mathlib.Core.List.{List, []}
 use mathlib.Core.Path.{_≡_, sym, ap, subst, _∙_}
 use Prim.Native.Nat.{ℕ, _≤_}
-use lib.ListN.{length, take, drop}
+use lib.ListN.{length, drop}
 use lib.Seq.{drop-append-seam}
 use Rattle.controller.specs.declared.record.Controller.{Controller}
 use Rattle.driver.specs.Run.{Report, jobOf}
-use Rattle.noninterference.proofs.Blind.{blank}
 use Rattle.noninterference.proofs.Theorem.{request-same, alike-twins}
 use Rattle.noninterference.proofs.Twin.{Twin}
 use Rattle.noninterference.specs.CallersMemory.{SameFirstBytes, SameCalls, CallersMemory}
 use Rattle.noninterference.specs.OldBytes.{Request, Seen, answered, worked, AlikeButForPlaces}
 use Rattle.notation.specs.Overlay.{laid}
 use Rattle.runs.proofs.Fits.{always-fits, laid-whole, begins-with}
-use Rattle.service.specs.declared.job.Job.{Job}
 
 -- of what was seen of a job
 abbrev sentOf : Seen → List ℕ

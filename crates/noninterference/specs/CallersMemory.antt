@@ -8,7 +8,7 @@ use Prim.Native.Nat.{ℕ}
 use lib.ListN.{length, take, drop}
 use Rattle.controller.specs.declared.record.Controller.{Controller}
 use Rattle.driver.specs.Run.{Report, jobOf}
-use Rattle.noninterference.specs.OldBytes.{Seen, ofJob, AlikeButForPlaces}
+use Rattle.noninterference.specs.OldBytes.{ofJob, AlikeButForPlaces}
 use Rattle.notation.specs.Overlay.{laid}
 use Rattle.service.specs.declared.job.Job.{Job}
 

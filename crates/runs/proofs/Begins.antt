@@ -12,17 +12,20 @@ use Rattle.control.specs.Writing.{response}
 use Rattle.control.specs.declared.flags.Control.{Control}
 use Rattle.control.specs.declared.turn.Turn.{Turn}
 use Rattle.control.specs.declared.writing.Response.the-variants.{Next}
+use Rattle.controller.specs.Access.{writeOf}
 use Rattle.controller.specs.I2ccon.{keeps, badCount}
 use Rattle.controller.specs.Record.{sound}
 use Rattle.controller.specs.Registers.{withCount}
+use Rattle.controller.specs.Reply.{Outcome, accepts}
 use Rattle.controller.specs.Setters.{withPointer, withArmed, withRegisters}
 use Rattle.controller.specs.declared.record.Controller.{Controller}
 use Rattle.notation.proofs.Among.{among-has, within, apart}
 use Rattle.notation.proofs.Cases.{if-false, and-left, and-right}
 use Rattle.notation.specs.Choice.{_and_, among}
-use Rattle.service.proofs.AccessesLeave.{controlledTo, control-written, pointer-written, count-written}
+use Rattle.service.proofs.AccessesLeave.{not-refused, controlledTo, control-accepted, pointer-accepted, pointer-written, count-accepted, count-written}
 use Rattle.service.proofs.Sound.{put-sound}
 use Rattle.runs.proofs.Invariant.{waitingTurns, Good, good-waiting}
+use Rattle.runs.specs.Accesses.{AllAccepted}
 use Rattle.service.specs.Act.{put, does, doesAll}
 use Rattle.service.specs.JobSteps.{countOf, begins}
 use Rattle.service.specs.Progress.{progress, starting}
@@ -39,24 +42,54 @@ module _ (job : Job) (c : Controller) (s : sound c ≡ true) (f : among (kind (c
   abbrev count : ℕ
   count = countOf (job .direction) (job .n)
 
+  -- the record after each of the three writes
+  abbrev pointed : Controller
+  pointed = withArmed (withPointer c 0) false
+
   abbrev counted : Controller
-  counted = withArmed (withRegisters (withArmed (withPointer c 0) false) (withCount (c .registers) count)) false
+  counted = withArmed (withRegisters pointed (withCount (c .registers) count)) false
 
   abbrev begun-as : Controller
   begun-as = put (put (put c 0 0x00) 2 count) 3 0x60
 
-  begins-to : begun-as ≡ controlledTo counted (flagsOf 0x60) (c .turn)
+  off-wire : among (kind (c .turn)) wireTurns ≡ false
+  off-wire = apart _ (free ∷ []) wireTurns tt f
+
+  points : put c 0 0x00 ≡ pointed
+  points = pointer-written c 0 s
+
+  pointed-sound : sound pointed ≡ true
+  pointed-sound = subst (λ (d : Controller). sound d ≡ true) points (put-sound c 0 0 s)
+
+  sets-count : put pointed 2 count ≡ counted
+  sets-count = count-written pointed count pointed-sound off-wire refl
+
+  counts-to : put (put c 0 0x00) 2 count ≡ counted
+  counts-to = ap (λ (d : Controller). put d 2 count) points ∙ sets-count
+
+  asks-start : writeOf counted 3 0x60 ≡ accepts (controlledTo counted (flagsOf 0x60) (c .turn)) 0
   unfolding flagsOf badCount _and_
-  begins-to =
-      let off-wire = apart _ (free ∷ []) wireTurns tt f in
+  asks-start =
       let idle = status-idle (c .turn) (apart _ (free ∷ []) (host ∷ []) tt f) in
-      let e₁ = pointer-written c 0 s in
-      let s₁ = subst (λ (d : Controller). sound d ≡ true) e₁ (put-sound c 0 0 s) in
-      let e₂ = count-written (withArmed (withPointer c 0) false) count s₁ off-wire refl in
-      let s₂ = subst (λ (d : Controller). sound d ≡ true) e₂ (put-sound _ 2 _ s₁) in
       let no-fault = ap (λ (x : ℕ). among x faults) idle ∙ among-has 0xF8 faults in
-      ap (λ (d : Controller). put (put d 2 count) 3 0x60) e₁ ∙ ap (λ (d : Controller). put d 3 0x60) e₂ ∙
-      control-written counted 0x60 (c .turn) (c .turn) s₂ refl off-wire no-fault refl (free-stays (c .turn) (flagsOf 0x60) f) refl
+      let still = subst (λ (d : Controller). sound d ≡ true) sets-count (put-sound _ 2 _ pointed-sound) in
+      control-accepted counted 0x60 (c .turn) (c .turn) still refl off-wire no-fault refl (free-stays (c .turn) (flagsOf 0x60) f) refl
+
+  begins-to : begun-as ≡ controlledTo counted (flagsOf 0x60) (c .turn)
+  unfolding put accepts
+  begins-to = ap (λ (d : Controller). put d 3 0x60) counts-to ∙ ap (λ (o : Outcome). o .next) asks-start
+
+  -- each of the three is accepted
+  begins-accepted : AllAccepted (begins job) (starting c)
+  unfolding starting does
+  begins-accepted =
+      let second = not-refused _ _ _ (count-accepted pointed count pointed-sound off-wire refl) in (
+        not-refused _ _ _ (pointer-accepted c 0 s),
+        (
+          subst (λ (d : Controller). writeOf d 2 count .refused ≡ 0) (sym points) second,
+          (subst (λ (d : Controller). writeOf d 3 0x60 .refused ≡ 0) (sym counts-to) (not-refused _ _ _ asks-start), tt),
+        ),
+      )
 
   begins-sound : sound begun-as ≡ true
   begins-sound = put-sound _ 3 0x60 (put-sound _ 2 _ (put-sound c 0 0 s))
@@ -70,6 +103,10 @@ module _ (job : Job) (c : Controller) (s : sound c ≡ true) (f : among (kind (c
       (within _ (free ∷ []) waitingTurns tt f))
 
 -- of a controller that is ready
+pub first-accepted : (job : Job) (c : Controller) → ready c ≡ true → AllAccepted (begins job) (starting c)
+unfolding ready
+first-accepted job c r = begins-accepted job c (and-left _ _ r) (and-left _ _ (and-right _ _ r))
+
 pub begun : (job : Job) (payload : List ℕ) (c : Controller) → ready c ≡ true → length (c .buffer) ≡ 68 →
     Good job payload [] 0 (starts (begins job) c)
 unfolding ready

@@ -6,7 +6,6 @@ use Prim.Native.Nat.{ℕ}
 use native.Mathlib.Omega.{arith}
 use borrow.Author.Tests.{eqb-true, ltb-true}
 use lib.Dec.{T, eqb, ltb}
-use lib.ListN.{length}
 use Rattle.address.specs.Number.{bitOf}
 use Rattle.address.specs.declared.number.Direction.the-variants.{Write}
 use Rattle.address.specs.declared.number.Direction.{Direction}
@@ -16,7 +15,7 @@ use Rattle.answer.specs.declared.ending.Ending.{Ending}
 use Rattle.controller.specs.Event.{eventOf}
 use Rattle.controller.specs.Reply.{Outcome}
 use Rattle.controller.specs.declared.record.Controller.{Controller}
-use Rattle.driver.specs.Run.{Result, Report, Run, closes, breaks, sending, taking, run, handsUp, reports, declines, jobOf}
+use Rattle.driver.specs.Run.{Result, Run, closes, breaks, sending, taking, run, handsUp, reports, declines, jobOf}
 use Rattle.laws.proofs.Refusals.{Stays, read-stays, write-stays, event-stays}
 use Rattle.notation.proofs.Among.{has, is-true, among-has, within, clash}
 use Rattle.notation.proofs.Cases.{if-false, and-no-left, and-no-right, split}
@@ -24,7 +23,7 @@ use Rattle.notation.specs.Choice.{if_then_else_, among}
 use Rattle.notation.specs.Overlay.{laid}
 use Rattle.runs.specs.Demand1.{eventRefusals, Answered, jobAnswers, JobAnswered, Demand1}
 use Rattle.service.proofs.AnyTable.{acts-leave}
-use Rattle.service.specs.Act.{Then, goesOn, awaits, ends, finishes, Work, reads, doesAll, follows, performs}
+use Rattle.service.specs.Act.{Then, goesOn, awaits, ends, finishes, Work, reads, follows, performs}
 use Rattle.service.specs.JobSteps.{begins}
 use Rattle.service.specs.JobTable.{jobTable}
 use Rattle.service.specs.Progress.{starting}

@@ -18,4 +18,5 @@ pub mod LostJobs
 pub mod NoneBegins
 pub mod ComesFrom
 pub mod ReasonLeft
+pub mod Accepted
 pub mod Demand1

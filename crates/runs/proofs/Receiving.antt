@@ -34,6 +34,14 @@ use Rattle.service.specs.Serve.{Table}
 use Rattle.service.specs.declared.job.Job.{Job}
 use Rattle.service.specs.declared.progress.Progress.{Progress}
 
+module _ {job : Job} {payload carried : List ℕ} {sent : ℕ} {p : Progress} (g : Good job payload carried sent p) (t : In p (receive ∷ [])) where
+  -- LB is set, so the last byte is not acknowledged
+  pub nacks-last : acknowledgesLast (p .controller) ≡ false
+  unfolding acknowledgesLast
+  nacks-last =
+      if-true (p .controller .control .mode) _ _ (g .receiving t .0) ∙ ap (λ (x : ℕ). not (eqb (x / 128) 1)) (g .whole .count) ∙
+      ap not (count-top (job .direction) (job .n) (g .receiving t .1))
+
 module _ {room places : ℕ} {job : Job} (payload : List ℕ) (form : Formed job (length payload) room places)
     {carried : List ℕ} {sent : ℕ} {p : Progress} (g : Good job payload carried sent p) (t : In p (receive ∷ [])) where
   below : p .controller .moved < job .n
@@ -64,13 +72,6 @@ module _ {room places : ℕ} {job : Job} (payload : List ℕ) (form : Formed job
   all-moved e =
       eqb-true (p .controller .moved + 1) (byteCount (p .controller)) (sym (if-true (p .controller .control .mode) _ _ (g .receiving t .0)) ∙ e)
       ∙ byte-count payload form g
-
-  -- LB is set, so the last byte is not acknowledged
-  nacks-last : acknowledgesLast (p .controller) ≡ false
-  unfolding acknowledgesLast
-  nacks-last =
-      if-true (p .controller .control .mode) _ _ (g .receiving t .0) ∙ ap (λ (x : ℕ). not (eqb (x / 128) 1)) (g .whole .count) ∙
-      ap not (count-top (job .direction) (job .n) (g .receiving t .1))
 
   -- n bytes are read back, since n is at most 68
   all-read : readTimes (job .n) ≡ job .n
@@ -127,7 +128,7 @@ module _ (table : Table) {room places : ℕ} {job : Job} (payload : List ℕ) (f
     unfolding dataIn
     data-in line argument =
         split (S 7 argument) _ _ _
-        (λ e. split (S 7 argument) _ _ _ (λ a. absurd (true≢false (sym a ∙ nacks-last payload form g t))) (λ _. data-last line argument e))
+        (λ e. split (S 7 argument) _ _ _ (λ a. absurd (true≢false (sym a ∙ nacks-last g t))) (λ _. data-last line argument e))
         (λ _. data-more argument)
 
   -- 7: a byte in

@@ -43,13 +43,13 @@ use Rattle.service.specs.declared.job.Job.{Job}
 use Rattle.service.specs.declared.progress.Progress.{Progress}
 
 -- the record as the pointer is back at 00h
-points-back : (h : Controller) → sound h ≡ true → pointsBack h ≡ withArmed (withPointer h 0) false
+pub points-back : (h : Controller) → sound h ≡ true → pointsBack h ≡ withArmed (withPointer h 0) false
 points-back h s =
     let e = pointer-written h 7 s in
     let still = subst (λ (d : Controller). sound d ≡ true) e (put-sound h 0 7 s) in
     ap (λ (d : Controller). put d 0 0) (count-read (put h 0 7) ∙ e) ∙ pointer-written _ 0 still
 
-back-sound : (h : Controller) → sound h ≡ true → sound (pointsBack h) ≡ true
+pub back-sound : (h : Controller) → sound h ≡ true → sound (pointsBack h) ≡ true
 back-sound h s = put-sound _ 0 0 (subst (λ (d : Controller). sound d ≡ true) (sym (count-read (put h 0 7))) (put-sound h 0 7 s))
 
 -- the record and the notes after an event that gave a status

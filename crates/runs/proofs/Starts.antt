@@ -54,7 +54,7 @@ stops-good {job} {payload} carried sent q status e count w t l r m z =
 
 module _ {room places : ℕ} {job : Job} (payload : List ℕ) (form : Formed job (length payload) room places) where
   -- a count that starts a buffered move
-  fair-count : (d : Controller) (k : Control) (t : Turn) → d .registers .count ≡ countOf (job .direction) (job .n) → badCount d k t ≡ false
+  pub fair-count : (d : Controller) (k : Control) (t : Turn) → d .registers .count ≡ countOf (job .direction) (job .n) → badCount d k t ≡ false
   unfolding badCount
   fair-count d k t e =
       let b : byteCount d ≡ job .n = ap (λ (x : ℕ). x % 128) e ∙ count-below (job .direction) (job .n) (form .high) in

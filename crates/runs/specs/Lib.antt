@@ -1,4 +1,5 @@
 -- Laws of one run: what they say.
 pub mod Demand1
+pub mod Accesses
 pub mod OneRun
 pub mod ReasonLeft
