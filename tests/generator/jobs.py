@@ -36,9 +36,11 @@ def make_paper_cases():
     write("case-c", "Case c: first data NACKed", 0x50, [0x11, 0x22],
           [START, ACK, NACK, STOP], "24 count 1 events 4", out="A0 11",
           into="")
-    read("case-d-read", "Case d: n 68, read", 0x50, 68, read_script(FULL),
-         "0 count 68 events 71", out="A1", into=hexed(FULL))
-    write("case-d-write", "Case d: n 68, write", 0x50, FULL,
+    assert len(set(FULL)) == 68      # 68 different bytes
+    read("case-d-read", 'Case d: "n 68 can be done", a read', 0x50, 68,
+         read_script(FULL), "0 count 68 events 71", out="A1",
+         into=hexed(FULL))
+    write("case-d-write", 'Case d: "n 68 can be done", a write', 0x50, FULL,
           write_script(68), "0 count 68 events 71", out="A0 " + hexed(FULL),
           into="")
     write("case-e", "Case e: n 0", 0x50, [], write_script(0), BAD)

@@ -18,6 +18,7 @@ import lost_ways
 import model
 from bad import make_bad
 from cases import make_cases
+from chip import make_chip
 from control import make_control
 from driver import job_program
 from events import make_events
@@ -172,6 +173,7 @@ def check_old(files):
 
 def make_traces():
     make_cases()
+    make_chip()
     make_events()
     make_control()
     make_lost()
