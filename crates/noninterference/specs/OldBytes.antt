@@ -1,9 +1,14 @@
--- Demand 3, whole, as one statement, `Demand3`, at the end of this file. That it holds is `demand-3` in
--- proofs/Theorem.antt; nothing of the proof has to be read to know what is claimed. Quotations are of document 01; where
--- `demand` or `document 02` stands before one, it is of the demand itself, which document 01 spells out, or of document 02.
+-- Demand 3, whole, as one statement, `Demand3`, at the end of this file. In the words of those who asked (00-demands.md): "Take any two controllers alike in
+-- all but the old contents of the 68 places. Give both the same list of jobs with their scripts, resets, enabling writes and other masters' STARTs, STOPs and
+-- address bytes, in any order, refused ones included. For every such list, whatever the bus does in its scripts, the two give the same answers, counts, bytes
+-- sent and bytes handed up, from the first on the list to the last. In every finished read on the list, the bytes handed up are exactly those the bus carried
+-- in that read, in the order it carried them."
 --
--- The statement speaks of the definitions. The code's `write`, `event` and `run_job` are proved equal to them, and the caller's
--- destination then begins with what is called `handed` here, the out record with `sent` (`always-fits`, crates/runs).
+-- That it holds is `demand-3` in proofs/Theorem.antt; nothing of the proof has to be read to know what is claimed. Quotations below are of document 01,
+-- which spells the demand out; where `demand` or `document 02` stands before one, it is of the demand itself, or of document 02.
+--
+-- The statement speaks of the definitions. The code's `write`, `event` and `run_job` are proved equal to them; what that makes of the caller's destination
+-- and out record is said in CallersMemory.antt.
 use mathlib.Core.List.{List, [], _∷_}
 use mathlib.Core.Path.{_≡_}
 use Prim.Native.Nat.{ℕ}
@@ -27,9 +32,8 @@ pub record Request : Type 0 where
   pub outLength : ℕ
   pub script : List ℕ
 
--- What the list may hold. Demand: "the same list of jobs with their scripts, resets, enabling writes and other masters' STARTs, STOPs
--- and address bytes, in any order, refused ones included". It is wider than the paper's list: any byte to INDPTR, to register 2 whatever
--- the pointer, and to I2CCON.
+-- What the list may hold. Demand: "Give both the same list of jobs with their scripts, resets, enabling writes and other masters' STARTs, STOPs and address
+-- bytes, in any order, refused ones included." It is wider than the paper's list: any byte to INDPTR, to register 2 whatever the pointer, and to I2CCON.
 pub data Item : Type 0 where
   -- a job with its script
   runJob : Request → Item
@@ -97,7 +101,8 @@ unfoldable pub observe : List Item → Controller → List Compared
 observe [] c = []
 observe (i ∷ items) c = ofStep (step i c) ∷ observe items (step i c .next)
 
--- "A finished read is a read answered 0": it hands up exactly what the bus carried (`carried`, runs/specs/OneRun.antt), n of them
+-- "A finished read is a read answered 0. What the bus carried in it are the arguments of the event 7 pairs before its script's first event 4, n of them, in
+-- script order." (`carried`, runs/specs/OneRun.antt)
 abbrev pub HandsUpCarried : Request → Report → Type 0
 HandsUpCarried q r =
     r .result .answer ≡ 0 → q .job .direction ≡ Read → (r .handed ≡ carried (q .script)) × (length (r .handed) ≡ q .job .n)
@@ -132,8 +137,9 @@ pub record AlikeButForPlaces (c c′ : Controller) : Type 0 where
   pub bufferLength : length (c .buffer) ≡ 68
   pub bufferLength′ : length (c′ .buffer) ≡ 68
 
--- Demand: "the two give the same answers, counts, bytes sent and bytes handed up, from the first on the list to the last. In every
--- finished read on the list, the bytes handed up are exactly those the bus carried in that read, in the order it carried them."
+-- Demand: "For every such list, whatever the bus does in its scripts, the two give the same answers, counts, bytes sent and bytes handed up, from the first
+-- on the list to the last. In every finished read on the list, the bytes handed up are exactly those the bus carried in that read, in the order it carried
+-- them."
 pub record NoOldBytes (items : List Item) (c c′ : Controller) : Type 0 where
   pub same : observe items c ≡ observe items c′
   pub carry : AllCarry items c
