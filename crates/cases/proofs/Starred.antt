@@ -21,7 +21,7 @@ use Rattle.controller.specs.Reset.{resetWith, completesReset, writePreset}
 use Rattle.controller.specs.Transfer.{cursor, isLast, dataOut, addressStatus, byteOut, acknowledgesLast, received, dataIn, slaveIn, byteIn}
 use Rattle.driver.specs.Run.{closes, breaks, sending, taking, run, handsUp, reports, declines, jobOf}
 use Rattle.notation.specs.Choice.{if_then_else_, _and_, _or_, among}
-use Rattle.runs.specs.Accesses.{shown, met}
+use Rattle.runs.specs.Accesses.{statusSeen, met}
 use Rattle.service.specs.Act.{put, reads, fetchOne, fetch, readTimes, does, doesAll, follows, performs}
 use Rattle.service.specs.JobSteps.{countOf}
 use Rattle.service.specs.JobTable.{jobTable}
@@ -37,8 +37,8 @@ unfolding if_then_else_ _and_ _or_ among callsAll callsOwn callOf matchOf bitOf 
     writeData atPointer stored writeAtPointer refuses accepts waitsFor interruptsAt changesStatus resetWith completesReset writePreset cursor isLast
     dataOut addressStatus byteOut acknowledgesLast received dataIn slaveIn byteIn badLength badAddress lent malformed ready closes breaks
     sending taking run starts handsUp reports declines jobOf put reads countOf jobTable starting fetchOne fetch readTimes does doesAll
-    follows performs serve lastShown countdown pairs allShown shown met lastOf
-computed = (refl, refl, refl)
+    follows performs serve lastShown countdown pairs allShown statusSeen met lastOf
+computed = (refl, refl, (refl, refl))
 
 pub starred : StarredCases
 starred = computed .0

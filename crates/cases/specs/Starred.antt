@@ -1,4 +1,5 @@
--- Document 01, "Cases, those marked * proved": each case as what is given to a fresh controller and what the last of it shows.
+-- Document 01, "Cases, those marked * proved": each case as the actions given to a fresh controller, one after the other, and what the last
+-- of them shows.
 use mathlib.Core.Bool.{Bool, true, false}
 use mathlib.Core.List.{List, [], _∷_, _++_, map}
 use mathlib.Core.Path.{_≡_}
@@ -59,8 +60,8 @@ pub record Case : Type 0 where
   pub shows : Shown
 
 -- what a case shows by the rules
-abbrev pub outcome : Case → Shown
-outcome k = lastShown (k .given) nothing fresh
+abbrev pub shownByRules : Case → Shown
+shownByRules k = lastShown (k .given) nothing fresh
 
 -- so many bytes, no two alike: n, n - 1 and so on, down to 1
 unfoldable pub countdown : ℕ → List ℕ
@@ -150,4 +151,4 @@ starredCases =
 
 -- the one statement: each shows what the paper says
 abbrev pub StarredCases : Type 0
-StarredCases = map outcome starredCases ≡ map (λ (k : Case). k .shows) starredCases
+StarredCases = map shownByRules starredCases ≡ map (λ (k : Case). k .shows) starredCases

@@ -28,11 +28,11 @@ keeps old k turn = record {
   mode = k .mode;
 }
 
--- an accepted write: hand place and moved count back at 0, then the flags stored, then the next turn
+-- an accepted write: hand place and moved count back at 0, then the flags stored, then the next turn, which clears SI unless it is Host (at 38h alone)
 unfoldable pub controlled : Controller → Control → Turn → Outcome
 controlled c k turn =
-    let cleared = withMoved (withHand c 0) 0 in
-    let flagged = withControl cleared (keeps (c .control) k turn) in
+    let rewound = withMoved (withHand c 0) 0 in
+    let flagged = withControl rewound (keeps (c .control) k turn) in
     wrote (withTurn flagged turn)
 
 -- refusal 6: "that write would start a buffered data move and BC is not 1..68"

@@ -28,7 +28,7 @@ unfoldable pub accepts : Controller → ℕ → Outcome
 accepts c value = record { next = c; refused = 0; value = value }
 
 -- The value, of what is no read and no event 6: "1 for a NACK in events 5, 7 and 8 (no match is a NACK), else 0". In these three events 0 tells ACK;
--- in every other it tells nothing.
+-- in every other it tells nothing. (`nack` is event 6's argument too: "argument 0 ACK, 1 NACK".)
 abbrev pub ack : ℕ
 ack = 0
 

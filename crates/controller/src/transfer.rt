@@ -14,10 +14,10 @@ ghost use Rattle.controller.specs.Effect.{afterEvent};
 ghost use Rattle.controller.specs.Transfer.{cursor, isLast, dataOut, addressStatus, byteOut, acknowledgesLast, dataIn, slaveIn, byteIn};
 
 // The status after an address byte that was acknowledged (0) or not (1).
-fn address_status(direction: Direction, nack: u8) -> u8
-    ensures { λ r. ⌜ r ≡ addressStatus direction nack ⌝ }
+fn address_status(direction: Direction, argument: u8) -> u8
+    ensures { λ r. ⌜ r ≡ addressStatus direction argument ⌝ }
 {
-    let nacked = nack == 1;
+    let nacked = argument == 1;
     match direction {
         Direction::Write => { if nacked { 0x20 } else { 0x18 } }
         Direction::Read => { if nacked { 0x48 } else { 0x40 } }
@@ -58,14 +58,14 @@ impl Controller {
     }
 
     // A data byte out: `broken` is the status at a NACK, `done` the one at the last byte.
-    fn data_out(self, nack: u8, broken: u8, done: u8) -> EventEffect
+    fn data_out(self, argument: u8, broken: u8, done: u8) -> EventEffect
         requires { ⌜ self .moved < 68 ⌝ }
-        ensures { λ r. ⌜ afterEvent self r ≡ dataOut self nack broken done ⌝ }
+        ensures { λ r. ⌜ afterEvent self r ≡ dataOut self argument broken done ⌝ }
     {
         let at = self.cursor() as usize;
         let buffer = self.buffer;
         let byte = buffer[at];
-        let nacked = nack == 1;
+        let nacked = argument == 1;
         if nacked {
             return EventEffect::SentLast(broken, byte);
         }
@@ -77,9 +77,9 @@ impl Controller {
     }
 
     // 6. A byte out, with what the receiver answered.
-    pub(crate) fn byte_out(self, nack: u8) -> EventEffect
+    pub(crate) fn byte_out(self, argument: u8) -> EventEffect
         requires { ⌜ sound self ≡ true ⌝ }
-        ensures { λ r. ⌜ afterEvent self r ≡ byteOut self nack ⌝ }
+        ensures { λ r. ⌜ afterEvent self r ≡ byteOut self argument ⌝ }
     {
         let turn = self.turn;
         match turn {
@@ -87,14 +87,14 @@ impl Controller {
                 let buffer = self.buffer;
                 let byte = buffer[0];
                 let direction = AddressByte(byte).direction();
-                self.give(address_status(direction, nack), byte)
+                self.give(address_status(direction, argument), byte)
             }
-            Turn::Send => self.data_out(nack, 0x30, 0x28),
+            Turn::Send => self.data_out(argument, 0x30, 0x28),
             Turn::SlaveSend => {
                 if self.control.aa {
-                    self.data_out(nack, 0xC0, 0xB8)
+                    self.data_out(argument, 0xC0, 0xB8)
                 } else {
-                    self.data_out(nack, 0xC0, 0xC8)
+                    self.data_out(argument, 0xC0, 0xC8)
                 }
             }
             _ => self.refuse(Refusal::Unexpected),

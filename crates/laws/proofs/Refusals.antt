@@ -20,12 +20,13 @@ use Rattle.controller.specs.Condition.{ownStart, otherStart, otherStop, ownStop
 use Rattle.controller.specs.Condition.{outbid, addressLost, dataLost, illegalEdge, dataHeld, clockHeld, idle}
 use Rattle.controller.specs.Event.{eventSound, eventOf}
 use Rattle.controller.specs.I2ccon.{controlled, enabled, writeFlags, writeControl}
+use Rattle.controller.specs.Record.{sound}
 use Rattle.controller.specs.Registers.{wrote, writePointer, readData, writeData, writeAtPointer}
 use Rattle.controller.specs.Reply.{Outcome, refuses, accepts, waitsFor, interruptsAt, changesStatus}
 use Rattle.controller.specs.Reset.{writePreset}
 use Rattle.controller.specs.Transfer.{dataOut, byteOut, dataIn, slaveIn, byteIn}
 use Rattle.controller.specs.declared.record.Controller.{Controller}
-use Rattle.notation.proofs.Among.{has, is-true, among-has}
+use Rattle.notation.proofs.Among.{has, every, is-true, among-has, within}
 use Rattle.notation.specs.Choice.{if_then_else_, among}
 
 -- an outcome that is accepted or refused with one of these numbers and, where it is refused, keeps the record and has the value 0
@@ -34,9 +35,12 @@ pub record Stays (c : Controller) (numbers : List ℕ) (o : Outcome) : Type 0 wh
   pub record-kept : (o .refused ≡ 0 → ⊥) → o .next ≡ c
   pub value-zero : (o .refused ≡ 0 → ⊥) → o .value ≡ 0
 
--- the lines of the table that an event, a read and a write can meet
+-- the lines of the table that an event, an event of a sound record, a read and a write can meet
 abbrev pub ofEvent : List ℕ
 ofEvent = 1 ∷ 2 ∷ 10 ∷ 8 ∷ []
+
+abbrev pub ofSoundEvent : List ℕ
+ofSoundEvent = 1 ∷ 2 ∷ 8 ∷ []
 
 abbrev pub ofRead : List ℕ
 ofRead = 1 ∷ 10 ∷ 9 ∷ 3 ∷ 7 ∷ []
@@ -58,6 +62,11 @@ unfolding if_then_else_
 either c ns true x y p q = p
 either c ns false x y p q = q
 
+-- among more numbers
+widened : (c : Controller) (ns ms : List ℕ) (o : Outcome) → T (every (has (0 ∷ ms)) (0 ∷ ns)) → Stays c ns o → Stays c ms o
+widened c ns ms o t s =
+    record { numbered = within (o .refused) (0 ∷ ns) (0 ∷ ms) t (s .numbered); record-kept = s .record-kept; value-zero = s .value-zero }
+
 waiting : (c d : Controller) (ns : List ℕ) (t : Turn) (v : ℕ) → Stays c ns (waitsFor d t v)
 unfolding waitsFor
 waiting c d ns t v = accepted c _ ns v
@@ -76,82 +85,82 @@ written c d ns = accepted c _ ns 0
 
 ruleset ends = (refused, accepted, either, waiting, interrupted, status-changed, written, tt)
 
-own-start : (c : Controller) → Stays c ofEvent (ownStart c)
+own-start : (c : Controller) → Stays c ofSoundEvent (ownStart c)
 unfolding ownStart
 own-start c = search ends
 
-other-start : (c : Controller) → Stays c ofEvent (otherStart c)
+other-start : (c : Controller) → Stays c ofSoundEvent (otherStart c)
 unfolding otherStart
 other-start c = search ends
 
-other-stop : (c : Controller) → Stays c ofEvent (otherStop c)
+other-stop : (c : Controller) → Stays c ofSoundEvent (otherStop c)
 unfolding otherStop
 other-stop c = search ends
 
-own-stop : (c : Controller) → Stays c ofEvent (ownStop c)
+own-stop : (c : Controller) → Stays c ofSoundEvent (ownStop c)
 unfolding ownStop
 own-stop c = search ends
 
-data-lost : (c : Controller) → Stays c ofEvent (dataLost c)
+data-lost : (c : Controller) → Stays c ofSoundEvent (dataLost c)
 unfolding dataLost
 data-lost c = search ends
 
-illegal-edge : (c : Controller) → Stays c ofEvent (illegalEdge c)
+illegal-edge : (c : Controller) → Stays c ofSoundEvent (illegalEdge c)
 unfolding illegalEdge
 illegal-edge c = search ends
 
-data-held : (c : Controller) → Stays c ofEvent (dataHeld c)
+data-held : (c : Controller) → Stays c ofSoundEvent (dataHeld c)
 unfolding dataHeld
 data-held c = search ends
 
-clock-held : (c : Controller) → Stays c ofEvent (clockHeld c)
+clock-held : (c : Controller) → Stays c ofSoundEvent (clockHeld c)
 unfolding clockHeld
 clock-held c = search ends
 
-idle-time : (c : Controller) → Stays c ofEvent (idle c)
+idle-time : (c : Controller) → Stays c ofSoundEvent (idle c)
 unfolding idle
 idle-time c = search ends
 
-address-found : (c : Controller) (m : Match) → Stays c ofEvent (addressed c m)
+address-found : (c : Controller) (m : Match) → Stays c ofSoundEvent (addressed c m)
 unfolding addressed
 address-found c General = search ends
 address-found c (Own Write) = search ends
 address-found c (Own Read) = search ends
 address-found c Nothing = search ends
 
-address-byte : (c : Controller) (byte : ℕ) → Stays c ofEvent (addressByte c byte)
+address-byte : (c : Controller) (byte : ℕ) → Stays c ofSoundEvent (addressByte c byte)
 unfolding addressByte
 address-byte c byte = search (address-found, ends)
 
-outbid-found : (c : Controller) (m : Match) → Stays c ofEvent (outbid c m)
+outbid-found : (c : Controller) (m : Match) → Stays c ofSoundEvent (outbid c m)
 unfolding outbid
 outbid-found c General = search ends
 outbid-found c (Own Write) = search ends
 outbid-found c (Own Read) = search ends
 outbid-found c Nothing = search ends
 
-address-lost : (c : Controller) (byte : ℕ) → Stays c ofEvent (addressLost c byte)
+address-lost : (c : Controller) (byte : ℕ) → Stays c ofSoundEvent (addressLost c byte)
 unfolding addressLost
 address-lost c byte = search (outbid-found, ends)
 
-data-out : (c : Controller) (nack broken done : ℕ) → Stays c ofEvent (dataOut c nack broken done)
+data-out : (c : Controller) (nack broken done : ℕ) → Stays c ofSoundEvent (dataOut c nack broken done)
 unfolding dataOut
 data-out c nack broken done = search ends
 
-byte-out : (c : Controller) (nack : ℕ) → Stays c ofEvent (byteOut c nack)
+byte-out : (c : Controller) (nack : ℕ) → Stays c ofSoundEvent (byteOut c nack)
 unfolding byteOut
 byte-out c nack = search (data-out, ends)
 
-data-in : (c : Controller) (byte taken ended : ℕ) → Stays c ofEvent (dataIn c byte taken ended)
+data-in : (c : Controller) (byte taken ended : ℕ) → Stays c ofSoundEvent (dataIn c byte taken ended)
 unfolding dataIn
 data-in c byte taken ended = search ends
 
-slave-in : (c : Controller) (byte : ℕ) (w : Called) → Stays c ofEvent (slaveIn c byte w)
+slave-in : (c : Controller) (byte : ℕ) (w : Called) → Stays c ofSoundEvent (slaveIn c byte w)
 unfolding slaveIn
 slave-in c byte called.Own = data-in c byte 0x80 0x88
 slave-in c byte called.General = data-in c byte 0xE0 0xE8
 
-byte-in : (c : Controller) (byte : ℕ) → Stays c ofEvent (byteIn c byte)
+byte-in : (c : Controller) (byte : ℕ) → Stays c ofSoundEvent (byteIn c byte)
 unfolding byteIn
 byte-in c byte = search (data-in, slave-in, ends)
 
@@ -159,7 +168,7 @@ ruleset passing = (own-start, other-start, other-stop, own-stop, address-byte, b
 
 ruleset events = (passing, address-lost, data-lost, illegal-edge, data-held, clock-held, idle-time, ends)
 
-event-sound : (c : Controller) (number argument : ℕ) → Stays c ofEvent (eventSound c number argument)
+event-sound : (c : Controller) (number argument : ℕ) → Stays c ofSoundEvent (eventSound c number argument)
 unfolding eventSound
 event-sound c number argument = search events depth 20
 
@@ -219,4 +228,12 @@ write-stays c register value = search (write-sound, ends)
 
 pub event-stays : (c : Controller) (number argument : ℕ) → Stays c ofEvent (eventOf c number argument)
 unfolding eventOf
-event-stays c number argument = search (event-sound, ends) depth 8
+event-stays c number argument =
+    either c ofEvent _ _ _ (refused c ofEvent 1 tt)
+    (either c ofEvent _ _ _ (refused c ofEvent 2 tt)
+    (either c ofEvent _ _ _ (accepted c _ ofEvent 0)
+    (either c ofEvent _ _ _ (widened c ofSoundEvent ofEvent _ tt (event-sound c number argument)) (refused c ofEvent 10 tt))))
+
+pub sound-event-stays : (c : Controller) (number argument : ℕ) → sound c ≡ true → Stays c ofSoundEvent (eventOf c number argument)
+unfolding eventOf if_then_else_
+sound-event-stays c number argument s = rw s (search (event-sound, ends) depth 8)

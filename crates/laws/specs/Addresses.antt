@@ -17,10 +17,10 @@ use Rattle.controller.specs.declared.record.Controller.{Controller}
 -- Address and address byte lead to each other, both ways.
 pub record LeadBack : Type 0 where
   -- address and direction of a byte make that byte again
-  pub byte : (byte : AddressByte) → byte .0 < 256 → byteOf (addressOf byte) (directionOf byte) ≡ byte
+  pub byte : (b : AddressByte) → b .0 < 256 → byteOf (addressOf b) (directionOf b) ≡ b
   -- a seven-bit address and a direction make a byte of which they are address and direction
-  pub address : (address : Address) (direction : Direction) → address .0 < 128 → addressOf (byteOf address direction) ≡ address
-  pub direction : (address : Address) (direction : Direction) → directionOf (byteOf address direction) ≡ direction
+  pub address : (a : Address) (d : Direction) → a .0 < 128 → addressOf (byteOf a d) ≡ a
+  pub direction : (a : Address) (d : Direction) → directionOf (byteOf a d) ≡ d
 
 -- What an answer of the match says of the byte. "own address with direction, General Call, or none, each with the byte's seven-bit address"
 -- (document 02, request 5). When each is answered, `callOf` says.

@@ -6,10 +6,10 @@ use lib.ListN.{length, drop}
 use lib.Seq.{drop-append-seam}
 use Rattle.controller.specs.declared.record.Controller.{Controller}
 use Rattle.driver.specs.Run.{Report, jobOf}
-use Rattle.noninterference.proofs.Theorem.{request-same, alike-twins}
+use Rattle.noninterference.proofs.Theorem.{request-same, job-carries, step-same, alike-twins}
 use Rattle.noninterference.proofs.Twin.{Twin}
-use Rattle.noninterference.specs.CallersMemory.{SameFirstBytes, SameCalls, CallersMemory}
-use Rattle.noninterference.specs.OldBytes.{Request, Seen, answered, worked, AlikeButForPlaces}
+use Rattle.noninterference.specs.CallersMemory.{SameFirstBytes, SameCalls, StaysAlike, CallersMemory}
+use Rattle.noninterference.specs.OldBytes.{GivenJob, Seen, answered, worked, AlikeButForPlaces}
 use Rattle.notation.specs.Overlay.{laid}
 use Rattle.runs.proofs.Fits.{always-fits, laid-whole, begins-with}
 
@@ -52,17 +52,21 @@ twins-alike c c′ t = record {
   bufferLength′ = t .places′;
 }
 
+pub stays-alike : StaysAlike
+stays-alike i c c′ a = twins-alike _ _ (step-same i c c′ (alike-twins c c′ a) .twin)
+
 pub callers-memory : CallersMemory
 callers-memory job payload script destination destination′ out out′ c c′ a d o =
     let report : ℕ → ℕ → Controller → Report = λ room places c. jobOf job payload room places script c in
-    let q : Request = record { job = job; payload = payload; destinationLength = length destination; outLength = length out; script = script } in
+    let q : GivenJob = record { job = job; payload = payload; destinationLength = length destination; outLength = length out; script = script } in
     let s = request-same q c c′ (alike-twins c c′ a) in
     let fits = always-fits job payload (length destination) (length out) script c (a .bufferLength) in
-    subst (λ (n : ℕ). SameCalls destination destination′ out out′ (report (length destination) (length out) c) (report n (length out′) c′)) d
-    (subst (λ (n : ℕ). SameCalls destination destination′ out out′ (report (length destination) (length out) c) (report (length destination) n c′)) o
+    subst (λ (n : ℕ). SameCalls job script destination destination′ out out′ (report (length destination) (length out) c) (report n (length out′) c′)) d
+    (subst (λ (n : ℕ). SameCalls job script destination destination′ out out′ (report (length destination) (length out) c) (report (length destination) n c′)) o
     (record {
       seen = s .seen;
       destinations = same-first _ _ destination destination′ (ap handedOf (s .seen)) d (fits .handed);
       outs = same-first _ _ out out′ (ap sentOf (s .seen)) o (fits .sent);
+      carriedBytes = λ d z. begins-with _ destination (fits .handed) ∙ job-carries q c (a .bufferLength) z d .0;
       next = twins-alike _ _ (s .twin);
     }))

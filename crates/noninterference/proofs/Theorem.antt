@@ -22,7 +22,7 @@ use Rattle.noninterference.proofs.Twin.{Twin, flip, write-alike, event-
 use Rattle.noninterference.proofs.TwoJobs.{job-same}
 use Rattle.noninterference.proofs.TwoRuns.{RunSame}
 use Rattle.noninterference.specs.OldBytes.{
-  Request,
+  GivenJob,
   Item,
   runJob,
   resetPin,
@@ -106,7 +106,7 @@ reports-same job r r′ s f =
     }
 
 -- a job that begins
-module _ (q : Request) (m : malformed (q .job) (length (q .payload)) (q .destinationLength) (q .outLength) (length (q .script)) ≡ false) where
+module _ (q : GivenJob) (m : malformed (q .job) (length (q .payload)) (q .destinationLength) (q .outLength) (length (q .script)) ≡ false) where
   abbrev table : Table
   table = jobTable (q .job) (q .payload)
 
@@ -146,28 +146,28 @@ same-if false true x x′ y y′ e f g = absurd (false≢true e)
 same-if false false x x′ y y′ e f g = g refl
 
 -- A job: the same report on both sides, and what it hands up was carried.
-pub request-same : (q : Request) (c c′ : Controller) → Twin c c′ → ReportSame (reportOf q c) (reportOf q c′)
+pub request-same : (q : GivenJob) (c c′ : Controller) → Twin c c′ → ReportSame (reportOf q c) (reportOf q c′)
 unfolding jobOf
 request-same q c c′ t =
     same-if _ _ _ _ _ _ refl (λ _. declines-same c c′ 21 t)
     (λ m. same-if _ _ _ _ _ _ (ready-same c c′ t) (λ r. run-alike q m c c′ t r (sym (ready-same c c′ t) ∙ r)) (λ _. declines-same c c′ 22 t))
 
-declined : (q : Request) (c : Controller) (k : ℕ) → HandsUpCarried q (declines c (suc k))
+declined : (q : GivenJob) (c : Controller) (k : ℕ) → HandsUpCarried q (declines c (suc k))
 unfolding declines
 declined q c k z = absurd (never z)
   where
     never : _≡_ {A = ℕ} (suc k) 0 → ⊥
     never e = omega (arith, e)
 
-job-carries : (q : Request) (c : Controller) → length (c .buffer) ≡ 68 → HandsUpCarried q (reportOf q c)
+pub job-carries : (q : GivenJob) (c : Controller) → length (c .buffer) ≡ 68 → HandsUpCarried q (reportOf q c)
 unfolding jobOf
 job-carries q c l =
     split (HandsUpCarried q) _ _ _ (λ _. declined q c 20) (λ m. split (HandsUpCarried q) _ _ _ (λ r. run-carries q m c r l) (λ _. declined q c 21))
 
 -- What one item does to twins.
-record StepSame (s s′ : Step) : Type 0 where
-  twin : Twin (s .next) (s′ .next)
-  seen : s .seen ≡ s′ .seen
+pub record StepSame (s s′ : Step) : Type 0 where
+  pub twin : Twin (s .next) (s′ .next)
+  pub seen : s .seen ≡ s′ .seen
 
 -- the reason is one of the items that twins share
 compared-same : (s s′ : Step) → StepSame s s′ → ofStep s ≡ ofStep s′
@@ -190,7 +190,7 @@ event-same c c′ number argument n t =
     access-same c c′ _ _ t (event-alike c c′ number argument t (λ e. absurd (true≢false (sym e ∙ n))))
     (event-alike c′ c number argument (flip t) (λ e. absurd (true≢false (sym e ∙ n))))
 
-step-same : (i : Item) (c c′ : Controller) → Twin c c′ → StepSame (step i c) (step i c′)
+pub step-same : (i : Item) (c c′ : Controller) → Twin c c′ → StepSame (step i c) (step i c′)
 step-same (runJob q) c c′ t = let s = request-same q c c′ t in record { twin = s .twin; seen = s .seen }
 step-same (resetPin argument) c c′ t = event-same c c′ 14 argument (among-has 14 (6 ∷ 8 ∷ [])) t
 step-same (indptr value) c c′ t = write-same c c′ 0 value t

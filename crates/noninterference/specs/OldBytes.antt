@@ -25,7 +25,7 @@ use Rattle.service.specs.declared.job.Job.{Job}
 
 -- A job on the list. "The same job means the same kind, address, n, data, script and lengths of destination and out record; what those
 -- two held may differ." Kind, address and n are in `job`; what destination and out record held is not in here at all.
-pub record Request : Type 0 where
+pub record GivenJob : Type 0 where
   pub job : Job
   pub payload : List ℕ
   pub destinationLength : ℕ
@@ -33,10 +33,11 @@ pub record Request : Type 0 where
   pub script : List ℕ
 
 -- What the list may hold. Demand: "Give both the same list of jobs with their scripts, resets, enabling writes and other masters' STARTs, STOPs and address
--- bytes, in any order, refused ones included." It is wider than the paper's list: any byte to INDPTR, to register 2 whatever the pointer, and to I2CCON.
+-- bytes, in any order, refused ones included." The list here is wider than the paper's: any
+-- byte to INDPTR, to register 2 whatever the pointer, and to I2CCON; events 2, 3 and 14 with any argument.
 pub data Item : Type 0 where
   -- a job with its script
-  runJob : Request → Item
+  runJob : GivenJob → Item
   -- "a reset is event 14": the reset pin, with its argument
   resetPin : ℕ → Item
   -- "or the software one (A5h and next 5Ah to I2CPRESET, with 05h written to INDPTR first ..)": a byte written to INDPTR, and one to
@@ -72,7 +73,7 @@ ofJob r = record {
 }
 
 -- the report of a job given to a record
-abbrev pub reportOf : Request → Controller → Report
+abbrev pub reportOf : GivenJob → Controller → Report
 reportOf q c = jobOf (q .job) (q .payload) (q .destinationLength) (q .outLength) (q .script) c
 
 -- each item by the rules of document 01, as the landed requests of document 02 mend them
@@ -103,7 +104,7 @@ observe (i ∷ items) c = ofStep (step i c) ∷ observe items (step i c .next)
 
 -- "A finished read is a read answered 0. What the bus carried in it are the arguments of the event 7 pairs before its script's first event 4, n of them, in
 -- script order." (`carried`, runs/specs/OneRun.antt)
-abbrev pub HandsUpCarried : Request → Report → Type 0
+abbrev pub HandsUpCarried : GivenJob → Report → Type 0
 HandsUpCarried q r =
     r .result .answer ≡ 0 → q .job .direction ≡ Read → (r .handed ≡ carried (q .script)) × (length (r .handed) ≡ q .job .n)
 

@@ -40,7 +40,7 @@ use Rattle.runs.proofs.Lines.{addressWork, dataWork, receiveWork, dataN
 use Rattle.runs.proofs.Sending.{points-back, back-sound}
 use Rattle.runs.proofs.Starts.{fair-count}
 use Rattle.runs.specs.Accesses.{ReadsAccepted, AllAccepted, lastEvents, ServedByAccepted, EveryPair, EveryAccessAccepted, jobStatuses}
-use Rattle.runs.specs.Accesses.{shown, met, EachAmong, OnlyListedStatuses}
+use Rattle.runs.specs.Accesses.{statusSeen, met, EachAmong, OnlyListedStatuses}
 use Rattle.service.proofs.AccessesLeave.{not-refused, control-accepted, dataWritten, data-accepted, data-written, pointer-accepted, pointer-written}
 use Rattle.service.proofs.AccessesLeave.{moved-accepted, data-read, count-read}
 use Rattle.service.proofs.Formed.{Formed, formed}
@@ -216,9 +216,9 @@ module _ {room places : ℕ} {job : Job} (payload : List ℕ) (form : Formed job
         (works (ap (λ (s : ℕ). eqb s 0xF8) (sym shows-status) ∙ f) (p .count));
   }
 
-  shown-listed : EachAmong (shown number (taking p next)) jobStatuses
-  unfolding shown taking
-  shown-listed =
+  seen-listed : EachAmong (statusSeen number (taking p next)) jobStatuses
+  unfolding statusSeen taking
+  seen-listed =
       let P : List ℕ → Type 0 = λ xs. EachAmong xs jobStatuses in
       split P (among number lastEvents) _ _ (λ _. tt)
       (λ _. split P (eqb (reads next 0) 0xF8) _ _ (λ _. tt)
@@ -254,8 +254,8 @@ module _ {room places : ℕ} {job : Job} (payload : List ℕ) (form : Formed job
       let P : List ℕ → Type 0 = λ xs. EachAmong xs jobStatuses in
       let q = serve table event (taking p (eventOf (p .controller) event argument .next)) in
       split P _ _ _
-      (λ a. each-append (shown event (taking p (eventOf (p .controller) event argument .next))) (if q .over then [] else met table q rest) jobStatuses
-      (shown-listed payload form g event argument)
+      (λ a. each-append (statusSeen event (taking p (eventOf (p .controller) event argument .next))) (if q .over then [] else met table q rest) jobStatuses
+      (seen-listed payload form g event argument)
       (split P (q .over) [] (met table q rest) (λ _. tt) (λ l. met-listed rest (on g event argument a l))))
       (λ _. tt)
 

@@ -13,25 +13,29 @@ use Rattle.answer.specs.Ending.{numberOf, besideOf}
 use Rattle.answer.specs.declared.ending.Ending.the-variants as ending
 use Rattle.answer.specs.declared.ending.Ending.{Ending}
 use Rattle.controller.specs.Event.{eventOf}
+use Rattle.controller.specs.Record.{sound}
 use Rattle.controller.specs.Reply.{Outcome}
 use Rattle.controller.specs.declared.record.Controller.{Controller}
 use Rattle.driver.specs.Run.{Result, Run, closes, breaks, sending, taking, run, handsUp, reports, declines, jobOf}
-use Rattle.laws.proofs.Refusals.{Stays, read-stays, write-stays, event-stays}
+use Rattle.laws.proofs.Refusals.{Stays, ofSoundEvent, read-stays, write-stays, event-stays, sound-event-stays}
+use Rattle.laws.proofs.Soundness.{event-stays-sound}
 use Rattle.notation.proofs.Among.{has, is-true, among-has, within, clash}
-use Rattle.notation.proofs.Cases.{if-false, and-no-left, and-no-right, split}
+use Rattle.notation.proofs.Cases.{if-false, and-no-left, and-no-right, and-left, split}
 use Rattle.notation.specs.Choice.{if_then_else_, among}
 use Rattle.notation.specs.Overlay.{laid}
-use Rattle.runs.specs.Demand1.{eventRefusals, Answered, jobAnswers, JobAnswered, Demand1}
+use Rattle.runs.specs.Demand1.{AccessAnswered, jobAnswers, JobAnswered, Demand1}
 use Rattle.service.proofs.AnyTable.{acts-leave}
+use Rattle.service.proofs.Sound.{KeepsSound, acts-sound, performs-sound}
 use Rattle.service.specs.Act.{Then, goesOn, awaits, ends, finishes, Work, reads, follows, performs}
 use Rattle.service.specs.JobSteps.{begins}
 use Rattle.service.specs.JobTable.{jobTable}
 use Rattle.service.specs.Progress.{starting}
+use Rattle.service.specs.Request.{ready}
 use Rattle.service.specs.Serve.{starts, serve}
 use Rattle.service.specs.declared.job.Job.{Job}
 use Rattle.service.specs.declared.progress.Progress.{Progress}
 
-answered : (c : Controller) (ns : List ℕ) (o : Outcome) → Stays c ns o → Answered c ns o
+answered : (c : Controller) (ns : List ℕ) (o : Outcome) → Stays c ns o → AccessAnswered c ns o
 answered c ns o s =
     let never : ltb 0 (o .refused) ≡ true → o .refused ≡ 0 → ⊥ = λ t e. let l = ltb-true 0 (o .refused) t in omega (arith, l, e) in
     record { number = s .numbered; stays = λ t. (s .record-kept (never t), s .value-zero (never t)) }
@@ -86,7 +90,7 @@ performs-notes w p f n = follows-notes (w .after) _ f (subst Notes (sym (acts-le
 -- The numbers of a result.
 record Numbers (r : Result) : Type 0 where
   answer : among (r .answer) (28 ∷ notedAnswers) ≡ true
-  beside : eqb (r .answer) 28 ≡ true → among (r .refused) eventRefusals ≡ true
+  beside : eqb (r .answer) 28 ≡ true → among (r .refused) ofSoundEvent ≡ true
   noneBeside : eqb (r .answer) 28 ≡ false → r .refused ≡ 0
 
 ended : (p : Progress) → Notes (p .ending) → Numbers (closes p .result)
@@ -104,7 +108,7 @@ unfolding breaks
 unfinished p = record { answer = among-has 27 (28 ∷ notedAnswers); beside = λ t. absurd (true≢false (sym t)); noneBeside = λ _. refl }
 
 -- refused by an event: a number of the table, and not 0
-refused : (p : Progress) (o : Outcome) → Stays (p .controller) eventRefusals o → eqb (o .refused) 0 ≡ false → Numbers (breaks p 28 (o .refused) .result)
+refused : (p : Progress) (o : Outcome) → Stays (p .controller) ofSoundEvent o → eqb (o .refused) 0 ≡ false → Numbers (breaks p 28 (o .refused) .result)
 unfolding breaks among
 refused p o s e = record {
   answer = among-has 28 (28 ∷ notedAnswers);
@@ -121,17 +125,26 @@ module _ (job : Job) (payload : List ℕ) where
       (λ _. split P (eqb event 4) _ _ (λ _. n)
       (λ _. split P (eqb (reads (p .controller) 0) 0xF8) _ _ (λ _. n) (λ _. performs-notes _ p (table-fine job payload _ (p .count)) n)))
 
-  run-numbers : (script : List ℕ) (p : Progress) → Notes (p .ending) → Numbers (run (jobTable job payload) p script .result)
+  serve-sound : (event : ℕ) (p : Progress) → KeepsSound p → KeepsSound (serve (jobTable job payload) event p)
+  unfolding serve follows
+  serve-sound event p s =
+      split KeepsSound (eqb event 14) _ _ (λ _. s)
+      (λ _. split KeepsSound (eqb event 4) _ _ (λ _. s)
+      (λ _. split KeepsSound (eqb (reads (p .controller) 0) 0xF8) _ _ (λ _. s) (λ _. performs-sound _ p s)))
+
+  run-numbers : (script : List ℕ) (p : Progress) → Notes (p .ending) → KeepsSound p → Numbers (run (jobTable job payload) p script .result)
   unfolding run sending taking
-  run-numbers [] p n = unfinished p
-  run-numbers (event ∷ []) p n = unfinished p
-  run-numbers (event ∷ argument ∷ rest) p n =
+  run-numbers [] p n s = unfinished p
+  run-numbers (event ∷ []) p n s = unfinished p
+  run-numbers (event ∷ argument ∷ rest) p n s =
       let P : Run → Type 0 = λ r. Numbers (r .result) in
       let o = eventOf (p .controller) event argument in
       let q = serve (jobTable job payload) event (taking p (o .next)) in
       let m = serve-notes event (taking p (o .next)) n in
-      split P (eqb (o .refused) 0) _ _ (λ _. split P (q .over) (closes q) (run (jobTable job payload) q rest) (λ _. ended q m) (λ _. run-numbers rest q m))
-      (refused p o (event-stays (p .controller) event argument))
+      let t = serve-sound event (taking p (o .next)) (event-stays-sound (p .controller) event argument s) in
+      split P (eqb (o .refused) 0) _ _
+      (λ _. split P (q .over) (closes q) (run (jobTable job payload) q rest) (λ _. ended q m) (λ _. run-numbers rest q m t))
+      (refused p o (sound-event-stays (p .controller) event argument s))
 
   -- a job that begins
   module _ (c : Controller) (destination out script : List ℕ) where
@@ -139,11 +152,11 @@ module _ (job : Job) (payload : List ℕ) where
     unfolding bitOf
     no-read d e = ap (λ (x : Direction). eqb (bitOf x) 1) e
 
-    worked : JobAnswered job c destination out (reports job (run (jobTable job payload) (starts (begins job) c) script))
+    worked : sound c ≡ true → JobAnswered job c destination out (reports job (run (jobTable job payload) (starts (begins job) c) script))
     unfolding reports handsUp starts starting laid
-    worked =
+    worked s =
         let begun = subst Notes (sym (acts-leave (begins job) (starting c) .ending)) tt in
-        let n = run-numbers script (starts (begins job) c) begun in
+        let n = run-numbers script (starts (begins job) c) begun (acts-sound (begins job) (starting c) s) in
         let none : (xs : List ℕ) → xs ≡ [] → laid xs destination ≡ destination = λ xs e. ap (λ (ys : List ℕ). laid ys destination) e in
         record {
           answer = within _ (28 ∷ notedAnswers) jobAnswers tt (n .answer);
@@ -151,7 +164,7 @@ module _ (job : Job) (payload : List ℕ) where
           noneBeside = n .noneBeside;
           declined = λ e. clash _ (28 ∷ notedAnswers) (21 ∷ 22 ∷ []) tt (n .answer) e;
           notDone = λ e. none _ (if-false _ _ _ (and-no-left _ _ e));
-          written = λ e. none _ (if-false _ _ _ (and-no-right _ _ (no-read (job .direction) e)));
+          ofWrite = λ e. none _ (if-false _ _ _ (and-no-right _ _ (no-read (job .direction) e)));
         }
 
     -- 21 and 22
@@ -163,11 +176,11 @@ module _ (job : Job) (payload : List ℕ) where
       noneBeside = λ _. refl;
       declined = λ _. (refl, refl, refl);
       notDone = λ _. refl;
-      written = λ _. refl;
+      ofWrite = λ _. refl;
     }
 
 pub demand-1 : Demand1
-unfolding jobOf
+unfolding jobOf ready
 demand-1 = record {
   read = λ c register. answered c _ _ (read-stays c register);
   write = λ c register value. answered c _ _ (write-stays c register value);
@@ -175,5 +188,5 @@ demand-1 = record {
   jobs = λ job payload destination out script c.
       let P = JobAnswered job c destination out in
       let no = not-begun job payload c destination out script in
-      split P _ _ _ (λ _. no 21 tt refl) (λ _. split P _ _ _ (λ _. worked job payload c destination out script) (λ _. no 22 tt refl));
+      split P _ _ _ (λ _. no 21 tt refl) (λ _. split P _ _ _ (λ r. worked job payload c destination out script (and-left _ _ r)) (λ _. no 22 tt refl));
 }

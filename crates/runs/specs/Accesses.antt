@@ -1,6 +1,6 @@
--- Document 01, Jobs, of a job that begins (not answered 21 or 22), whatever its script: every register access that the driver makes is accepted; and the
--- statuses that it meets are those for which the page has a line. The proofs are in proofs/Accepted.antt; that each of these statuses is met by some job
--- is shown in crates/cases (specs/Statuses.antt).
+-- Document 01, Jobs, of a job that begins (not answered 21 or 22), whatever its script: every register access that the driver makes is accepted; and it
+-- meets no status but the twelve at which `jobTable` (crates/service) has something to do. The proofs are in proofs/Accepted.antt; that each of the twelve is
+-- met by some job is shown in crates/cases (specs/Statuses.antt).
 use mathlib.Core.Bool.{true, false}
 use mathlib.Core.List.{List, [], _∷_, _++_}
 use mathlib.Core.Path.{_≡_}
@@ -27,17 +27,17 @@ ReadsAccepted zero c = Unit {0}
 ReadsAccepted (suc more) c = (readOf c 1 .refused ≡ 0) × ReadsAccepted more (readOf c 1 .next)
 
 -- the accesses of one act are accepted; what is only noted makes none
-abbrev pub Accepted : Act → Progress → Type 0
-Accepted (writes register value) p = writeOf (p .controller) register value .refused ≡ 0
-Accepted (readsData at) p = readOf (p .controller) 1 .refused ≡ 0
-Accepted readsAll p = ReadsAccepted (readTimes (p .count)) (p .controller)
-Accepted readsCount p = readOf (p .controller) 2 .refused ≡ 0
-Accepted (counts count) p = Unit {0}
+abbrev pub ActAccepted : Act → Progress → Type 0
+ActAccepted (writes register value) p = writeOf (p .controller) register value .refused ≡ 0
+ActAccepted (readsData at) p = readOf (p .controller) 1 .refused ≡ 0
+ActAccepted readsAll p = ReadsAccepted (readTimes (p .count)) (p .controller)
+ActAccepted readsCount p = readOf (p .controller) 2 .refused ≡ 0
+ActAccepted (counts count) p = Unit {0}
 
 -- those of one act after the other
 abbrev pub AllAccepted : List Act → Progress → Type 0
 AllAccepted [] p = Unit {0}
-AllAccepted (x ∷ xs) p = Accepted x p × AllAccepted xs (does x p)
+AllAccepted (x ∷ xs) p = ActAccepted x p × AllAccepted xs (does x p)
 
 -- event 14 and own STOP end the job, and the driver looks at no register after them
 abbrev pub lastEvents : List ℕ
@@ -64,14 +64,14 @@ EveryAccessAccepted = (job : Job) (payload : List ℕ) (destinationLength outLen
     malformed job (length payload) destinationLength outLength (length script) ≡ false → ready c ≡ true → length (c .buffer) ≡ 68 →
     AllAccepted (begins job) (starting c) × EveryPair (jobTable job payload) (starts (begins job) c) script
 
--- The statuses on the page: "at 08h the address byte and 40h" and what follows on it (18h, 40h), "the end (20h, 28h, 30h, 48h, 58h)", 25 "38h", 26 "00h,
--- 70h, 78h".
+-- The twelve: 08h, "at 08h the address byte and 40h"; the two at which it writes "then the data if any and 41h", 18h in a write and 40h in a read (the
+-- status, and not the byte 40h of that sentence); "at the end (20h, 28h, 30h, 48h, 58h)"; answer 25, "38h"; answer 26, "00h, 70h, 78h".
 abbrev pub jobStatuses : List ℕ
 jobStatuses = 0x08 ∷ 0x18 ∷ 0x40 ∷ 0x20 ∷ 0x28 ∷ 0x30 ∷ 0x48 ∷ 0x58 ∷ 0x38 ∷ 0x00 ∷ 0x70 ∷ 0x78 ∷ []
 
 -- what the driver reads in register 0 after an accepted pair, if it is not F8h
-unfoldable pub shown : ℕ → Progress → List ℕ
-shown event p =
+unfoldable pub statusSeen : ℕ → Progress → List ℕ
+statusSeen event p =
     if among event lastEvents then []
     else if eqb (reads (p .controller) 0) 0xF8 then []
     else reads (p .controller) 0 ∷ []
@@ -84,7 +84,7 @@ met table p (event ∷ argument ∷ rest) =
     let o = eventOf (p .controller) event argument in
     let q = serve table event (taking p (o .next)) in
     if eqb (o .refused) 0
-    then shown event (taking p (o .next)) ++ (if q .over then [] else met table q rest)
+    then statusSeen event (taking p (o .next)) ++ (if q .over then [] else met table q rest)
     else []
 
 -- each of these numbers is one of those
