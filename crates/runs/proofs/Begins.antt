@@ -107,6 +107,10 @@ pub first-accepted : (job : Job) (c : Controller) → ready c ≡ true → AllAc
 unfolding ready
 first-accepted job c r = begins-accepted job c (and-left _ _ r) (and-left _ _ (and-right _ _ r))
 
+pub first-pointer : (job : Job) (c : Controller) → ready c ≡ true → starts (begins job) c .controller .pointer ≡ 0
+unfolding ready starts starting doesAll does
+first-pointer job c r = ap (λ (d : Controller). d .pointer) (begins-to job c (and-left _ _ r) (and-left _ _ (and-right _ _ r)))
+
 pub begun : (job : Job) (payload : List ℕ) (c : Controller) → ready c ≡ true → length (c .buffer) ≡ 68 →
     Good job payload [] 0 (starts (begins job) c)
 unfolding ready

@@ -1,4 +1,4 @@
--- From which turns of a job an event leads to a status, for the statuses that the driver has work for. Assumes nothing.
+-- From which turns of a job an event leads to a status, for the statuses that the driver has work for, and with what record. Assumes nothing.
 use mathlib.Core.Bool.{Bool, true, false, cond, true≢false}
 use mathlib.Core.List.{List, [], _∷_}
 use mathlib.Core.Path.{_≡_, refl, sym, ap, subst, _∙_}
@@ -21,7 +21,7 @@ use Rattle.notation.proofs.Cases.{split}
 use Rattle.notation.specs.Choice.{if_then_else_, _and_, among}
 use Rattle.runs.proofs.Invariant.{In, jobTurns, earlyTurns, Good}
 use Rattle.runs.proofs.Receiving.{nacks-last}
-use Rattle.runs.proofs.Step.{hosted, here, not-38h, no-match}
+use Rattle.runs.proofs.Step.{here, not-38h, no-match}
 use Rattle.runs.specs.Accesses.{jobStatuses}
 use Rattle.service.specs.declared.job.Job.{Job}
 use Rattle.service.specs.declared.progress.Progress.{Progress}
@@ -44,16 +44,19 @@ module _ {job : Job} {payload carried : List ℕ} {sent : ℕ} {p : Progress} (g
     pub turn : In p (turnsBefore (statusOf (o .next .turn)))
     pub six : among (statusOf (o .next .turn)) (0x20 ∷ 0x48 ∷ []) ≡ true → eqb number 6 ≡ true
     pub given : eqb (statusOf (o .next .turn)) 0xF8 ≡ false → Given (o .next)
+    -- no event moves the pointer from 00h
+    pub pointer : p .controller .pointer ≡ 0 → o .next .pointer ≡ 0
 
   comes : (o : Outcome) (ks : List ℕ) → In p ks → T (every (has (turnsBefore (statusOf (o .next .turn)))) ks) →
-      has (0x20 ∷ 0x48 ∷ []) (statusOf (o .next .turn)) ≡ false → (eqb (statusOf (o .next .turn)) 0xF8 ≡ false → Given (o .next)) → Comes o
-  comes o ks t w n f = record { turn = within _ ks _ w t; six = λ e. absurd (true≢false (sym e ∙ among-has _ _ ∙ n)); given = f }
+      has (0x20 ∷ 0x48 ∷ []) (statusOf (o .next .turn)) ≡ false → (eqb (statusOf (o .next .turn)) 0xF8 ≡ false → Given (o .next)) →
+      (p .controller .pointer ≡ 0 → o .next .pointer ≡ 0) → Comes o
+  comes o ks t w n f z = record { turn = within _ ks _ w t; six = λ e. absurd (true≢false (sym e ∙ among-has _ _ ∙ n)); given = f; pointer = z }
 
   -- no status is given; the turn is none of a job's; a choice; a test of two
-  quiet : (o : Outcome) → statusOf (o .next .turn) ≡ 0xF8 → Comes o
-  quiet o e =
+  quiet : (o : Outcome) → statusOf (o .next .turn) ≡ 0xF8 → (p .controller .pointer ≡ 0 → o .next .pointer ≡ 0) → Comes o
+  quiet o e z =
       comes o jobTurns (g .turn) (subst (λ s. T (every (has (turnsBefore s)) jobTurns)) (sym e) tt) (ap (has (0x20 ∷ 0x48 ∷ [])) e)
-      (λ f. absurd (true≢false (sym (ap (λ (s : ℕ). eqb s 0xF8) e) ∙ f)))
+      (λ f. absurd (true≢false (sym (ap (λ (s : ℕ). eqb s 0xF8) e) ∙ f))) z
 
   -- one is given
   with-status : (d : Controller) → T (has jobStatuses (statusOf (d .turn))) → d .hand ≡ 0 → d .registers ≡ p .controller .registers →
@@ -81,18 +84,25 @@ module _ {job : Job} {payload carried : List ℕ} {sent : ℕ} {p : Progress} (g
   no-38h : (o : Outcome) → at38h (p .controller .turn) ≡ true → Comes o
   no-38h o e = absurd (not-38h g e)
 
-  given-here : (s : ℕ) → T (has jobStatuses s) → eqb s 0xF8 ≡ false → Given (hosted (p .controller) s)
-  unfolding statusOf
-  given-here s t = with-status _ t refl refl (g .whole .places)
+  -- a status that event 6 gives
+  by-six : (s v : ℕ) → In p (turnsBefore s) → T (has jobStatuses s) → eqb number 6 ≡ true → Comes (gives (p .controller) s v)
+  unfolding interruptsAt accepts statusOf
+  by-six s v t l n = record { turn = t; six = λ _. n; given = with-status _ l refl refl (g .whole .places); pointer = λ e. e }
 
   address-out : (d : Direction) (nack v : ℕ) → In p (address ∷ []) → eqb number 6 ≡ true → Comes (gives (p .controller) (addressStatus d nack) v)
-  unfolding addressStatus interruptsAt accepts statusOf
-  address-out Write k v t n = split (λ s. Comes (gives (p .controller) s v)) _ _ _ (λ _. record { turn = g .turn; six = λ _. n; given = given-here _ tt }) (λ _. comes _ _ t tt refl (given-here _ tt))
-  address-out Read k v t n = split (λ s. Comes (gives (p .controller) s v)) _ _ _ (λ _. record { turn = g .turn; six = λ _. n; given = given-here _ tt }) (λ _. comes _ _ t tt refl (given-here _ tt))
+  unfolding addressStatus
+  address-out Write k v t n =
+      split (λ s. Comes (gives (p .controller) s v)) _ _ _ (λ _. by-six 0x20 v (g .turn) tt n)
+      (λ _. by-six 0x18 v (within _ (address ∷ []) earlyTurns tt t) tt n)
+  address-out Read k v t n =
+      split (λ s. Comes (gives (p .controller) s v)) _ _ _ (λ _. by-six 0x48 v (g .turn) tt n)
+      (λ _. by-six 0x40 v (within _ (address ∷ []) earlyTurns tt t) tt n)
 
   pub event-comes : (argument : ℕ) → Comes (eventOf (p .controller) number argument)
   unfolding eventOf eventSound ownStart otherStart otherStop ownStop addressByte addressed addressLost outbid dataLost illegalEdge dataHeld clockHeld
       idle byteOut dataOut byteIn dataIn received refuses accepts waitsFor interruptsAt changesStatus resetWith statusOf
   event-comes argument =
       let now = status-idle (p .controller .turn) (apart _ jobTurns (host ∷ []) tt (g .turn)) in
-      rw (no-match g argument) (search (both, chosen, quiet, address-out, no-ack, no-38h, comes, with-status, still-68, g .whole .places, not-here, now, g .turn, tt) depth 40 fits 30000)
+      let all = g .whole .places in
+      rw (no-match g argument)
+      (search (both, chosen, quiet, address-out, no-ack, no-38h, comes, with-status, still-68, all, not-here, now, g .turn, tt) depth 40 fits 30000)

@@ -19,4 +19,5 @@ pub mod NoneBegins
 pub mod ComesFrom
 pub mod ReasonLeft
 pub mod Accepted
+pub mod Pointer
 pub mod Demand1

@@ -1,6 +1,7 @@
 -- Laws of one run of a job, whatever the job, script and record (its buffer is a list here, so that it has 68 places is said). These are
 -- the statements; `always-fits` (proofs/Fits.antt), `one-byte-each` (proofs/OneByteEach.antt), `hands-up-so-many`
--- (proofs/HandsUpSoMany.antt), `lost-held` (proofs/LostJobs.antt) and `none-begins` (proofs/NoneBegins.antt) say that they hold. `carried` is for demand 3.
+-- (proofs/HandsUpSoMany.antt), `leaves-pointer` (proofs/Pointer.antt), `lost-held` (proofs/LostJobs.antt) and `none-begins`
+-- (proofs/NoneBegins.antt) say that they hold. `carried` is for demand 3.
 use mathlib.Core.Bool.{true, false}
 use mathlib.Core.List.{List, [], _∷_}
 use mathlib.Core.Path.{_≡_}
@@ -12,7 +13,7 @@ use Rattle.control.specs.Turn.{at38h}
 use Rattle.controller.specs.declared.record.Controller.{Controller}
 use Rattle.driver.specs.Run.{Report, declines, jobOf}
 use Rattle.notation.specs.Choice.{if_then_else_, _and_}
-use Rattle.service.specs.Request.{malformed}
+use Rattle.service.specs.Request.{malformed, ready}
 use Rattle.service.specs.declared.job.Job.{Job}
 
 -- what a job sends and hands up fits into what was lent, and a byte holds how many it sent: "The out record begins with those and its
@@ -46,6 +47,12 @@ abbrev pub HandsUpSoMany : Type 0
 HandsUpSoMany = (job : Job) (payload : List ℕ) (destinationLength outLength : ℕ) (script : List ℕ) (c : Controller) →
     length (c .buffer) ≡ 68 →
     let r = jobOf job payload destinationLength outLength script c in length (r .handed) ≡ handedCount job (r .result .answer)
+
+-- "It leaves the pointer at 00h": every job that begins (not answered 21 or 22), whatever its answer
+abbrev pub LeavesPointer : Type 0
+LeavesPointer = (job : Job) (payload : List ℕ) (destinationLength outLength : ℕ) (script : List ℕ) (c : Controller) →
+    malformed job (length payload) destinationLength outLength (length script) ≡ false → ready c ≡ true → length (c .buffer) ≡ 68 →
+    jobOf job payload destinationLength outLength script c .result .next .pointer ≡ 0
 
 -- "For job answer 25 the driver still writes 40h, and the record stays at 38h" (document 02, request 2): status 38h; AA, ENSIO, STA
 -- and MODE as 40h stores them; hand place and moved count at 0, as after every accepted I2CCON write
