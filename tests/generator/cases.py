@@ -65,7 +65,7 @@ def make_case_k():
 def make_case_l():
     t = Trace("case-l", "Case l: event 12 with TE 0 is refused 8")
     t.wr(0, 4)
-    t.rd(2, "I2CTO after reset:")
+    t.rd(2, "I2CTO of a fresh controller:")
     t.wr(2, 0x7F, "TE 0")
     t.wr(3, 0x40)
     t.ev(12, 0, "event 12, TE 0, Free:")
