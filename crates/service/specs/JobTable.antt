@@ -1,6 +1,6 @@
 -- Document 01, Jobs: what the driver does at each status of a read or write job, whatever the count noted. Every status that a job can
 -- meet has a line but F8h, at which the driver waits: AA is 0 in all that it writes, so there is no slave status; LB is 1 in a read, so
--- no 50h; it asks for no repeated START, so no 10h.
+-- no 50h; it asks for no repeated START, so no 10h. (`OnlyListedStatuses`, crates/runs, says so of every job.)
 --
 -- "at 08h the address byte and 40h, then the data if any and 41h" (18h in a write, 40h in a read), "at 58h reads the n bytes, at the end
 -- (20h, 28h, 30h, 48h, 58h) writes 50h, and waits for own STOP" (`stopAfter`). "address NACKed (20h, 48h)"; "38h; the driver has written
