@@ -61,8 +61,9 @@ callers-memory job payload script destination destination′ out out′ c c′ a
     let q : GivenJob = record { job = job; payload = payload; destinationLength = length destination; outLength = length out; script = script } in
     let s = request-same q c c′ (alike-twins c c′ a) in
     let fits = always-fits job payload (length destination) (length out) script c (a .bufferLength) in
-    subst (λ (n : ℕ). SameCalls job script destination destination′ out out′ (report (length destination) (length out) c) (report n (length out′) c′)) d
-    (subst (λ (n : ℕ). SameCalls job script destination destination′ out out′ (report (length destination) (length out) c) (report (length destination) n c′)) o
+    let same : Report → Type 0 = SameCalls job script destination destination′ out out′ (report (length destination) (length out) c) in
+    subst (λ (n : ℕ). same (report n (length out′) c′)) d
+    (subst (λ (n : ℕ). same (report (length destination) n c′)) o
     (record {
       seen = s .seen;
       destinations = same-first _ _ destination destination′ (ap handedOf (s .seen)) d (fits .handed);

@@ -91,9 +91,10 @@ finds-accepted d s =
     let e = pointer-written d 7 s in
     let pointed = withArmed (withPointer d 7) false in
     let still = subst (λ (x : Controller). sound x ≡ true) e (put-sound d 0 7 s) in
-    let r = moved-accepted pointed still refl in (
+    let r = moved-accepted pointed still refl in
+    let back = not-refused _ _ _ (pointer-accepted pointed 0 still) in (
       subst (λ (x : Controller). readOf x 2 .refused ≡ 0) (sym e) (not-refused _ _ _ r),
-      subst (λ (x : Controller). writeOf x 0 0x00 .refused ≡ 0) (sym (count-read (put d 0 0x07) ∙ e)) (not-refused _ _ _ (pointer-accepted pointed 0 still)),
+      subst (λ (x : Controller). writeOf x 0 0x00 .refused ≡ 0) (sym (count-read (put d 0 0x07) ∙ e)) back,
     )
 
 module _ {room places : ℕ} {job : Job} (payload : List ℕ) (form : Formed job (length payload) room places)
