@@ -21,7 +21,7 @@ ghost use Rattle.service.specs.Request.{ready};
 ghost use Rattle.service.specs.Serve.{starts};
 
 // I2CCOUNT for n bytes: LB is set for a read.
-fn count_of(direction: Direction, n: u8) -> u8
+pub fn count_of(direction: Direction, n: u8) -> u8
     ensures { λ r. ⌜ r ≡ countOf direction n ⌝ }
 {
     match direction {

@@ -1,0 +1,3 @@
+-- The port in lent bytes, for C and Rust.
+pub mod StateBytes
+pub mod Calls

@@ -1,0 +1,106 @@
+// The state in lent bytes.
+use crate::memory::put_head;
+use port::stage::Stage;
+use port::stand::Stand;
+use requests::jobs::job_for;
+ghost use mathlib.Core.Path.{_≡_};
+ghost use Prim.Native.Nat.{_≤_};
+ghost use lib.ListN.{length, take, drop, set};
+ghost use Rattle.notation.specs.Overlay.{laid, laidAt};
+ghost use Rattle.port.specs.Ask.{askNumber};
+ghost use Rattle.port.specs.Hear.{hears, asks};
+ghost use Rattle.dock.specs.StateBytes.{bit, headBytes, marked, standOf};
+
+fn weigh(b: bool) -> u8
+    ensures { λ r. ⌜ r ≡ bit b ⌝ }
+{
+    if b { 1 } else { 0 }
+}
+
+// The mark.
+fn is_marked(state: &[u8]) -> bool
+    requires { ⌜ 148 ≤ length (now state) ⌝ }
+    ensures { λ r. ⌜ r ≡ marked (now (state .entry)) ⌝ }
+{
+    let first = state[0] == 0x50;
+    if first { state[1] == 0x76 } else { false }
+}
+
+// Where the job stands, by the state's bytes.
+pub(crate) fn load(state: &[u8]) -> Stand
+    requires { ⌜ 148 ≤ length (now state) ⌝ }
+    ensures { λ r. ⌜ r ≡ standOf (now (state .entry)) ⌝ }
+{
+    if is_marked(state) {
+        let stage = Stage::of_number(state[2]);
+        let job = job_for(state[3], state[4], state[5]);
+        return Stand {
+            stage,
+            job,
+            status: state[6],
+            made: state[7],
+            due: state[8] == 1,
+            answer: state[9],
+            count: state[10],
+            stale: state[11] == 1,
+        };
+    }
+    Stand::break_off(22, true)
+}
+
+// Where the job stands, put into the state's bytes.
+pub(crate) fn store(state: &mut [u8], s: Stand)
+    requires { ⌜ 148 ≤ length (now state) ⌝ }
+    ensures { λ _. ⌜ now (state .exit) ≡ laid (headBytes s) (now (state .entry)) ⌝ }
+{
+    let stage = s.stage;
+    let job = s.job;
+    let direction = job.direction;
+    let address = job.address;
+    let bytes = [
+        0x50,
+        0x76,
+        stage.number(),
+        direction.bit(),
+        address.0,
+        job.n,
+        s.status,
+        s.made,
+        weigh(s.due),
+        s.answer,
+        s.count,
+        weigh(s.stale),
+    ];
+    put_head(state, bytes);
+}
+
+// Where the job stands once the value is heard; the state is as it was.
+pub(crate) fn hear_in(state: &[u8], s: Stand, value: u8) -> Stand
+    requires { ⌜ 148 ≤ length (now state) ⌝ }
+    ensures { λ r. ⌜ r ≡ hears s (take 68 (drop 12 (now (state .entry)))) value ⌝ }
+{
+    let payload = &state[12..80];
+    s.hear(payload, value)
+}
+
+// The value read from I2CDAT is noted at its place; 68 is none.
+pub(crate) fn keep(state: &mut [u8], place: usize, value: u8)
+    requires { ⌜ 148 ≤ length (now state) ⌝ }
+    ensures { λ _. ⌜ now (state .exit) ≡ laidAt 80 (set (take 68 (drop 80 (now (state .entry)))) place value) (now (state .entry)) ⌝ }
+{
+    if place < 68 {
+        state[80 + place] = value;
+    }
+}
+
+// The state is put, and the step told.
+pub(crate) fn tell(state: &mut [u8], s: Stand) -> u32
+    requires { ⌜ 148 ≤ length (now state) ⌝ }
+    ensures step { λ r. ⌜ r ≡ askNumber (asks s (take 68 (drop 12 (now (state .entry))))) ⌝ }
+    ensures state { λ _. ⌜ now (state .exit) ≡ laid (headBytes s) (now (state .entry)) ⌝ }
+{
+    let payload = &state[12..80];
+    let ask = s.ask(payload);
+    store(state, s);
+    ask.number()
+}
