@@ -58,8 +58,8 @@ pub extern "C" fn perlovasta_start(
     }
     let job = job_asked(kind, address, n);
     let stand = load(state).start(job, bytes.len());
-    put_padded(state, 12, bytes, kept(job, bytes.len()));
     put_padded(state, 80, bytes, 0);
+    put_padded(state, 12, bytes, kept(job, bytes.len()));
     tell(state, stand)
 }
 
@@ -74,8 +74,8 @@ pub extern "C" fn perlovasta_recover(state: &mut [u8], settings: &[u8]) -> u32
         return 5381;
     }
     let stand = load(state).bring_back(settings);
-    put_padded(state, 12, settings, settings.len());
     put_padded(state, 80, settings, 0);
+    put_padded(state, 12, settings, settings.len());
     tell(state, stand)
 }
 

@@ -2,20 +2,8 @@
 ghost use mathlib.Core.Path.{_≡_};
 ghost use Prim.Native.Nat.{_+_, _≤_};
 ghost use lib.ListN.{length, take, getD};
-ghost use Rattle.notation.specs.Overlay.{laid, laidAt};
+ghost use Rattle.notation.specs.Overlay.{laidAt};
 ghost use Rattle.port.specs.Port.{padded};
-
-// The first 12.
-pub(crate) fn put_head(state: &mut [u8], bytes: [u8; 12])
-    requires { ⌜ 12 ≤ length (now state) ⌝ }
-    ensures { λ _. ⌜ now (state .exit) ≡ laid bytes (now (state .entry)) ⌝ }
-{
-    let mut i = 0;
-    while i < 12 {
-        state[i] = bytes[i];
-        i += 1;
-    }
-}
 
 // 68 from this place on: the first n bytes, and zeros after them.
 pub(crate) fn put_padded(state: &mut [u8], at: usize, bytes: &[u8], n: usize)

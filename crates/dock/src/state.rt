@@ -1,5 +1,4 @@
 // The state in lent bytes.
-use crate::memory::put_head;
 use port::stage::Stage;
 use port::stand::Stand;
 use requests::jobs::job_for;
@@ -49,7 +48,7 @@ pub(crate) fn load(state: &[u8]) -> Stand
 }
 
 // Where the job stands, put into the state's bytes.
-pub(crate) fn store(state: &mut [u8], s: Stand)
+fn store(state: &mut [u8], s: Stand)
     requires { ⌜ 148 ≤ length (now state) ⌝ }
     ensures { λ _. ⌜ now (state .exit) ≡ laid (headBytes s) (now (state .entry)) ⌝ }
 {
@@ -57,21 +56,18 @@ pub(crate) fn store(state: &mut [u8], s: Stand)
     let job = s.job;
     let direction = job.direction;
     let address = job.address;
-    let bytes = [
-        0x50,
-        0x76,
-        stage.number(),
-        direction.bit(),
-        address.0,
-        job.n,
-        s.status,
-        s.made,
-        weigh(s.due),
-        s.answer,
-        s.count,
-        weigh(s.stale),
-    ];
-    put_head(state, bytes);
+    state[0] = 0x50;
+    state[1] = 0x76;
+    state[2] = stage.number();
+    state[3] = direction.bit();
+    state[4] = address.0;
+    state[5] = job.n;
+    state[6] = s.status;
+    state[7] = s.made;
+    state[8] = weigh(s.due);
+    state[9] = s.answer;
+    state[10] = s.count;
+    state[11] = weigh(s.stale);
 }
 
 // Where the job stands once the value is heard; the state is as it was.

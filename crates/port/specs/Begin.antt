@@ -20,7 +20,7 @@ unfit job dataLength = malformed job dataLength 68 69 0
 unfoldable pub unsettled : Stand → Bool
 unsettled s = not (eqb (stageNumber (s .stage)) over) or s .stale
 
--- a job begins: 21; 22, "with no access made"; or I2CCON is asked for
+-- a job begins: 21; 22, with no access made; or I2CCON is asked for
 unfoldable pub startOf : Stand → Job → ℕ → Stand
 startOf s job dataLength =
     if unfit job dataLength then brokenOff 21 (unsettled s)
@@ -47,6 +47,6 @@ recoverOf s settings =
     if badSettings settings then brokenOff 21 (unsettled s)
     else stand Recovering (noJob (length settings)) 0 0 false 27 0 true
 
--- "`give up`, answer 27, from any state"
+-- all is given up, from any state: 27, and the chip has to be brought back
 unfoldable pub giveUpOf : Stand → Stand
 giveUpOf s = brokenOff 27 true

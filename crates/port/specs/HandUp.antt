@@ -17,13 +17,13 @@ pub record Taken : Type 0 where
 abbrev pub nothing : ℕ → Taken
 nothing answer = record { answer = answer; handed = [] }
 
--- Of a job answered 0: "exactly if the job is a read", and 21 where it was none or the destination is too short. (R is 1 for a read.)
+-- Of a job answered 0: its n bytes where it was a read, and 21 where it was none or the destination is too short. (R is 1 for a read.)
 unfoldable pub takeDone : Stand → List ℕ → ℕ → Taken
 takeDone s fetched destinationLength =
     if not (eqb (bitOf (s .job .direction)) 1) or ltb destinationLength (s .job .n) then nothing 21
     else record { answer = 0; handed = take (s .job .n) fetched }
 
--- "else writes nothing and says why": 27 while it lasts, then its own answer
+-- of any other nothing, and why: 27 while it lasts, then its own answer
 unfoldable pub takeOf : Stand → List ℕ → ℕ → Taken
 takeOf s fetched destinationLength =
     if not (eqb (stageNumber (s .stage)) over) then nothing 27

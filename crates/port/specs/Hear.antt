@@ -48,7 +48,7 @@ looked s value =
 -- where it stands once the value is heard
 unfoldable pub hearsAt : Stage → Stand → List ℕ → ℕ → Stand
 hearsAt Over s payload value = s
--- "Before its first write it reads I2CCON and I2CSTA": 22, with no write made
+-- before the first write I2CCON and I2CSTA are read; a chip that is not ready for a job is 22, and no write was made
 hearsAt Control s payload value = if idleControl value then atStage s Status else ended s 22 0
 hearsAt Status s payload value = if eqb value 0xF8 then atFirst s First else ended s 22 0
 hearsAt First s payload value = onward s payload (atStage s Waiting)

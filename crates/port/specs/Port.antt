@@ -32,7 +32,7 @@ asking p = asks (p .stand) (p .payload)
 unfoldable pub padded : List ℕ → List ℕ
 padded xs = take 68 (xs ++ replicate 68 0)
 
--- "the data of a write (copied at the start: ..)"; of a read none are looked at
+-- "Data .. are meant as the bytes they hold when the job begins" (document 01): they are copied then. Of a read none are looked at.
 unfoldable pub keptData : Direction → ℕ → List ℕ → List ℕ
 keptData Write n bytes = take n bytes
 keptData Read n bytes = []

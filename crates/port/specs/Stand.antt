@@ -45,6 +45,6 @@ noJob n = record { direction = Write; address = record { 0 = 0 }; n = n }
 abbrev pub brokenOff : ℕ → Bool → Stand
 brokenOff answer stale = stand Over (noJob 0) 0 0 false answer 0 stale
 
--- "a state that is new": over, with answer 22, and the chip has to be brought back before the first job
+-- A state that is new: over with answer 22, and the chip has to be brought back before the first job.
 abbrev pub new : Stand
 new = brokenOff 22 true

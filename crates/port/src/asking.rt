@@ -101,11 +101,12 @@ impl Stand {
         ensures { λ r. ⌜ r ≡ askFor (nth (alternates 0 2 (take (self .job .n) (now (payload .entry))) ++ (writes 3 0x40 ∷ [])) i) ⌝ }
     {
         if i < least(self.job.n, payload.len()) {
+            let value = payload[i];
             let pointer = i % 2 == 0;
             if pointer {
-                return Ask::Write(0, payload[i]);
+                return Ask::Write(0, value);
             }
-            return Ask::Write(2, payload[i]);
+            return Ask::Write(2, value);
         }
         Ask::Write(3, 0x40)
     }

@@ -1,0 +1,4 @@
+-- Laws of the state's bytes.
+pub mod Padded
+pub mod Laid
+pub mod ReadBack

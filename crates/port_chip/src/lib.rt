@@ -1,0 +1,1 @@
+// No code: theorems of the port, whatever a chip answers.

@@ -1,0 +1,167 @@
+/*
+ * Perlovasta in a dock: the proved driver for a PCA9665, asked for one register
+ * access at a time. It makes none itself, so it runs on any board: the board
+ * does what a step says, and hands the value that was read to the next step.
+ *
+ *     uint8_t state[PERLOVASTA_STATE] = {0};
+ *     perlovasta_step step = perlovasta_recover(state, sizeof state, none, 0);
+ *     .. run it as below, then for each badge ..
+ *     step = perlovasta_start(state, sizeof state, 1, 0x50, 8, none, 0);
+ *     while (perlovasta_kind(step) != PERLOVASTA_OVER) {
+ *         uint8_t value = 0;
+ *         switch (perlovasta_kind(step)) {
+ *         case PERLOVASTA_WRITE_REGISTER: write register, value; break;
+ *         case PERLOVASTA_READ_REGISTER:  value = read register; break;
+ *         case PERLOVASTA_WAIT:           wait for the chip's interrupt; break;
+ *         case PERLOVASTA_PAUSE:          wait 550 us; break;
+ *         }
+ *         step = the clock ran out ? perlovasta_give_up(state, sizeof state)
+ *                                  : perlovasta_next(state, sizeof state, value);
+ *     }
+ *     if (perlovasta_take(state, sizeof state, badge, sizeof badge) == 0)
+ *         .. the 8 bytes are those that the chip was read ..
+ *
+ * It keeps nothing but the state, needs no heap, calls nothing but memset, is
+ * re-entrant for different states, and is built for x86-64 Linux here.
+ *
+ * For every pointer: it is never NULL, also where its length is 0 (`none` above
+ * is a pointer to any byte); the bytes it lends are as many as its length says;
+ * and no two of the slices of one call overlap.
+ */
+#ifndef PERLOVASTA_DOCK_H
+#define PERLOVASTA_DOCK_H
+
+#include <stddef.h>
+#include <stdint.h>
+
+#if defined(__GNUC__) || defined(__clang__)
+#define PERLOVASTA_LOOK __attribute__((warn_unused_result))
+#else
+#define PERLOVASTA_LOOK
+#endif
+
+/* Bytes of a state. Any content is answered: one that no call has written is
+ * over with 22, and wants a recovery first. */
+#define PERLOVASTA_STATE 148u
+
+/* The most settings that a recovery takes, in bytes: six pairs. */
+#define PERLOVASTA_SETTINGS 12u
+
+/* What the board has to do next, as one number. Take it apart by the four
+ * functions below. */
+typedef uint32_t perlovasta_step;
+
+enum perlovasta_step_kind {
+    PERLOVASTA_WRITE_REGISTER = 1, /* the register, with the value */
+    PERLOVASTA_READ_REGISTER = 2,  /* the register; its value is for the next step */
+    PERLOVASTA_WAIT = 3,           /* until the chip interrupts, or a while */
+    PERLOVASTA_PAUSE = 4,          /* 550 us, for the chip's oscillator */
+    PERLOVASTA_OVER = 5            /* nothing any more: the answer, and its count */
+};
+
+/* 1 to 5, as above. 0 is no step. */
+static inline unsigned perlovasta_kind(perlovasta_step step) {
+    return step & 0xFFu;
+}
+
+/* Of a read or write: 0 I2CSTA and INDPTR, 1 I2CDAT, 2 the register at the
+ * pointer, 3 I2CCON. */
+static inline uint8_t perlovasta_register(perlovasta_step step) {
+    return (uint8_t)(step >> 8);
+}
+
+/* Of a write: the byte to be written. */
+static inline uint8_t perlovasta_value(perlovasta_step step) {
+    return (uint8_t)(step >> 16);
+}
+
+/* Of a step that is over: the answer, see below. */
+static inline uint8_t perlovasta_answer(perlovasta_step step) {
+    return (uint8_t)(step >> 8);
+}
+
+/* Of a step that is over: n for answer 0 of a job, for 24 the data bytes moved
+ * with the one not acknowledged, else 0. */
+static inline uint8_t perlovasta_count(perlovasta_step step) {
+    return (uint8_t)(step >> 16);
+}
+
+#ifdef __cplusplus
+extern "C" {
+#endif
+
+/*
+ * A job begins. Its first step is given; a job that is refused is over at once,
+ * and no access is made.
+ *
+ * kind     0 write, 1 read; any other is answered 21
+ * address  08h..77h, the seven-bit address
+ * n        1..68, how many data bytes
+ * data     of a write, at least n bytes, copied now; not looked at for a read
+ *
+ * Whatever the state held before: nothing of it shows any more, and what was
+ * under way is given up.
+ *
+ * Answers, in a step that is over:
+ *   0  done: own STOP was seen
+ *  21  kind, address, n or the length of data is wrong, or the state is too short
+ *  22  not ready. The chip said so: I2CCON not enabled, or STA, STO or SI 1, or
+ *      I2CSTA not F8h; no write was made. Or the state said so, with no access
+ *      at all: it is new, or a job was given up, or one is under way. Then
+ *      perlovasta_recover comes first
+ *  23  address not acknowledged
+ *  24  data byte not acknowledged
+ *  25  arbitration lost. The chip stays at status 38h until another's STOP or a
+ *      time-out; jobs begun before that are 22
+ *  26  bus fault: status 00h, 70h or 78h; perlovasta_recover
+ *  27  given up; perlovasta_recover
+ *  29  the chip was reset: ENSIO reads 0; perlovasta_recover
+ */
+PERLOVASTA_LOOK perlovasta_step
+perlovasta_start(uint8_t *state, size_t state_len, uint8_t kind, uint8_t address,
+                 uint8_t n, const uint8_t *data, size_t data_len);
+
+/*
+ * The chip is brought back, whatever it was doing: a software reset, the
+ * settings, 40h to I2CCON, and a pause. Its answer is 0, or 21 for settings
+ * that are not pairs, more than six, or of another register.
+ *
+ * settings  pairs (pointer, value): 00h I2CCOUNT, 01h I2CADR, 02h I2CSCLL,
+ *           03h I2CSCLH, 04h I2CTO, 06h I2CMODE
+ */
+PERLOVASTA_LOOK perlovasta_step
+perlovasta_recover(uint8_t *state, size_t state_len, const uint8_t *settings,
+                   size_t settings_len);
+
+/*
+ * The next step. value is what the register read of the last step gave; it is
+ * not looked at after any other step. A state that is over stays so.
+ */
+PERLOVASTA_LOOK perlovasta_step
+perlovasta_next(uint8_t *state, size_t state_len, uint8_t value);
+
+/*
+ * The caller's clock ran out. It is over with 27, whatever was under way, and
+ * no job begins until perlovasta_recover was run to its end.
+ */
+PERLOVASTA_LOOK perlovasta_step
+perlovasta_give_up(uint8_t *state, size_t state_len);
+
+/*
+ * The bytes of a finished read go to the destination. Returns 0 exactly if the
+ * job is over, is a read and was answered 0, and the destination has at least
+ * n bytes: its first n bytes are written then, and its rest stays. Else nothing
+ * is written, and it returns why:
+ *   27  it is not over
+ *   21  it was no read, or the destination or the state is too short
+ *   any other: the job's answer
+ */
+PERLOVASTA_LOOK uint8_t
+perlovasta_take(const uint8_t *state, size_t state_len, uint8_t *destination,
+                size_t destination_len);
+
+#ifdef __cplusplus
+}
+#endif
+
+#endif
