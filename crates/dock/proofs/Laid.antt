@@ -3,8 +3,8 @@ use mathlib.Core.List.{List, [], _∷_, _++_}
 use mathlib.Core.Path.{_≡_, refl, sym, ap, _∙_}
 use Prim.Native.Nat.{ℕ, zero, suc, _+_, _≤_, _<_}
 use native.Mathlib.Omega.{arith}
-use lib.ListN.{length, take, drop, set}
-use lib.Seq.{sets, sets-eq}
+use lib.ListN.{length, take, drop, set, length-drop}
+use lib.Seq.{sets, sets-eq, length-take-le}
 use Rattle.notation.specs.Overlay.{laid, laidAt}
 
 nowhere : (k : ℕ) (xs : List ℕ) → laidAt k xs [] ≡ []
@@ -95,3 +95,7 @@ pub laid-sets : (xs m : List ℕ) → length xs ≤ length m → laid xs m ≡ s
 laid-sets xs m h =
     let none : 0 + length xs ≡ length xs = omega arith in
     over xs m h ∙ ap (λ (k : ℕ). xs ++ drop k m) (sym none) ∙ sym (sets-eq xs m 0 (omega (arith, h)))
+
+-- 68 places from one on
+pub part-length : (k : ℕ) (m : List ℕ) → k + 68 ≤ length m → length (take 68 (drop k m)) ≡ 68
+part-length k m h = let d = length-drop k m in length-take-le 68 (drop k m) (omega (arith, d, h))

@@ -2,3 +2,4 @@
 pub mod Padded
 pub mod Laid
 pub mod ReadBack
+pub mod Told

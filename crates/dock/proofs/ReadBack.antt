@@ -2,16 +2,16 @@
 use mathlib.Core.Bool.{Bool, true, false}
 use mathlib.Core.List.{List, [], _∷_, _++_, append-assoc}
 use mathlib.Core.Path.{_≡_, refl, sym, ap, subst, _∙_}
-use Prim.Native.Nat.{ℕ, _+_, _≤_}
+use Prim.Native.Nat.{ℕ, _≤_}
 use native.Mathlib.Omega.{arith}
 use borrow.Author.Tests.{le-ltb}
 use lib.Dec.{eqb}
-use lib.ListN.{length, take, drop, set, length-append, length-drop, length-set}
-use lib.Seq.{take-at, drop-at, drop-drop, length-take-le}
+use lib.ListN.{length, take, drop, length-append, length-set}
+use lib.Seq.{take-at, drop-at, drop-drop}
 use Rattle.address.specs.Number.{bitOf}
 use Rattle.address.specs.declared.number.Direction.the-variants.{Write, Read}
 use Rattle.address.specs.declared.number.Direction.{Direction}
-use Rattle.dock.proofs.Laid.{over, laid-length}
+use Rattle.dock.proofs.Laid.{over, laid-length, part-length}
 use Rattle.dock.specs.Calls.{StepCall, tooShort, telling, nextCall}
 use Rattle.dock.specs.ReadBack.{ReadBack, stateAfter, portAfter, CallsInTurn}
 use Rattle.dock.specs.StateBytes.{bit, headBytes, bytesOf, marked, standOf, portOf}
@@ -81,10 +81,6 @@ pub read-back : ReadBack
 read-back p m a b l =
     let n = size p a b in
     ap portOf (over (bytesOf p) m (omega (arith, n, l))) ∙ parts-back p (drop (length (bytesOf p)) m) a b
-
--- a step of the port that stands in a state leaves 68 places of each kind
-part-length : (k : ℕ) (m : List ℕ) → k + 68 ≤ length m → length (take 68 (drop k m)) ≡ 68
-part-length k m h = let d = length-drop k m in length-take-le 68 (drop k m) (omega (arith, d, h))
 
 one-call : (m : List ℕ) (value : ℕ) → 148 ≤ length m → portOf (laid (nextCall m value .state) m) ≡ step (portOf m) value
 unfolding nextCall telling tooShort step portOf
