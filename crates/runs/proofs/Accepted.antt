@@ -179,7 +179,7 @@ module _ {room places : ℕ} {job : Job} (payload : List ℕ) (form : Formed job
         (tt, (read, (stops 0x58 e refl refl _ (l .sound) (l .turn), tt)))
 
     -- the work, line by line of the table
-    works : (noted : ℕ) → AllAccepted (jobTable job payload status noted .acts) (taking p next)
+    pub works : (noted : ℕ) → AllAccepted (jobTable job payload status noted .acts) (taking p next)
     unfolding jobTable does taking respondsAt endOr among flagsOf badCount if_then_else_ _and_
     works noted =
         let P : Work → Type 0 = λ w. AllAccepted (w .acts) (taking p next) in

@@ -1,4 +1,4 @@
--- A job begins: I2CCOUNT is set and a START asked for, and the invariant holds. Assumes nothing.
+-- A job begins, with the bus free or another master's: I2CCOUNT is set and a START asked for, and the invariant holds. Assumes nothing.
 use mathlib.Core.Bool.{true, false}
 use mathlib.Core.List.{List, [], _∷_}
 use mathlib.Core.Path.{_≡_, refl, sym, ap, subst, _∙_}
@@ -34,11 +34,11 @@ use Rattle.service.specs.Serve.{starts}
 use Rattle.service.specs.declared.job.Job.{Job}
 
 -- "F8h: the turn stays"
-free-stays : (t : Turn) (k : Control) → among (kind t) (free ∷ []) ≡ true → response t k ≡ Next t
+turn-stays : (t : Turn) (k : Control) → among (kind t) waitingTurns ≡ true → response t k ≡ Next t
 unfolding response
-free-stays t k f = if-false _ _ _ (apart _ (free ∷ []) (off ∷ []) tt f) ∙ if-false _ _ _ (apart _ (free ∷ []) (host ∷ []) tt f)
+turn-stays t k w = if-false _ _ _ (apart _ waitingTurns (off ∷ []) tt w) ∙ if-false _ _ _ (apart _ waitingTurns (host ∷ []) tt w)
 
-module _ (job : Job) (c : Controller) (s : sound c ≡ true) (f : among (kind (c .turn)) (free ∷ []) ≡ true) where
+module _ (job : Job) (c : Controller) (s : sound c ≡ true) (w : among (kind (c .turn)) waitingTurns ≡ true) where
   abbrev count : ℕ
   count = countOf (job .direction) (job .n)
 
@@ -53,7 +53,7 @@ module _ (job : Job) (c : Controller) (s : sound c ≡ true) (f : among (kind (c
   begun-as = put (put (put c 0 0x00) 2 count) 3 0x60
 
   off-wire : among (kind (c .turn)) wireTurns ≡ false
-  off-wire = apart _ (free ∷ []) wireTurns tt f
+  off-wire = apart _ waitingTurns wireTurns tt w
 
   points : put c 0 0x00 ≡ pointed
   points = pointer-written c 0 s
@@ -70,12 +70,12 @@ module _ (job : Job) (c : Controller) (s : sound c ≡ true) (f : among (kind (c
   asks-start : writeOf counted 3 0x60 ≡ accepts (controlledTo counted (flagsOf 0x60) (c .turn)) 0
   unfolding flagsOf badCount _and_
   asks-start =
-      let idle = status-idle (c .turn) (apart _ (free ∷ []) (host ∷ []) tt f) in
+      let idle = status-idle (c .turn) (apart _ waitingTurns (host ∷ []) tt w) in
       let no-fault = ap (λ (x : ℕ). among x faults) idle ∙ among-has 0xF8 faults in
       let still = subst (λ (d : Controller). sound d ≡ true) sets-count (put-sound _ 2 _ pointed-sound) in
-      control-accepted counted 0x60 (c .turn) (c .turn) still refl off-wire no-fault refl (free-stays (c .turn) (flagsOf 0x60) f) refl
+      control-accepted counted 0x60 (c .turn) (c .turn) still refl off-wire no-fault refl (turn-stays (c .turn) (flagsOf 0x60) w) refl
 
-  begins-to : begun-as ≡ controlledTo counted (flagsOf 0x60) (c .turn)
+  pub begins-to : begun-as ≡ controlledTo counted (flagsOf 0x60) (c .turn)
   unfolding put accepts
   begins-to = ap (λ (d : Controller). put d 3 0x60) counts-to ∙ ap (λ (o : Outcome). o .next) asks-start
 
@@ -94,24 +94,30 @@ module _ (job : Job) (c : Controller) (s : sound c ≡ true) (f : among (kind (c
   begins-sound : sound begun-as ≡ true
   begins-sound = put-sound _ 3 0x60 (put-sound _ 2 _ (put-sound c 0 0 s))
 
-  starts-good : (payload : List ℕ) → length (c .buffer) ≡ 68 → Good job payload [] 0 (starts (begins job) c)
-  unfolding starts starting doesAll does keeps flagsOf
-  starts-good payload l =
-      let still = subst (λ (d : Controller). sound d ≡ true) begins-to begins-sound in
-      subst (λ (d : Controller). Good job payload [] 0 (progress d false Unfinished 0 0 (replicate 68 0))) (sym begins-to)
-      (good-waiting job payload _ (record { sound = still; count = refl; places = l; notes = length-replicate {A = ℕ} 68 0; lasts = refl }) refl
-      (within _ (free ∷ []) waitingTurns tt f))
+-- the invariant holds
+pub good-begun : (job : Job) (payload : List ℕ) (c : Controller) → sound c ≡ true → among (kind (c .turn)) waitingTurns ≡ true →
+    length (c .buffer) ≡ 68 → Good job payload [] 0 (starts (begins job) c)
+unfolding starts starting doesAll does keeps flagsOf
+good-begun job payload c s w l =
+    let e = begins-to job c s w in
+    let still = subst (λ (d : Controller). sound d ≡ true) e (begins-sound job c s w) in
+    subst (λ (d : Controller). Good job payload [] 0 (progress d false Unfinished 0 0 (replicate 68 0))) (sym e)
+    (good-waiting job payload _ (record { sound = still; count = refl; places = l; notes = length-replicate {A = ℕ} 68 0; lasts = refl }) refl w)
 
 -- of a controller that is ready
+pub ready-waits : (c : Controller) → ready c ≡ true → among (kind (c .turn)) waitingTurns ≡ true
+unfolding ready
+ready-waits c r = within _ (free ∷ []) waitingTurns tt (and-left _ _ (and-right _ _ r))
+
 pub first-accepted : (job : Job) (c : Controller) → ready c ≡ true → AllAccepted (begins job) (starting c)
 unfolding ready
-first-accepted job c r = begins-accepted job c (and-left _ _ r) (and-left _ _ (and-right _ _ r))
+first-accepted job c r = begins-accepted job c (and-left _ _ r) (ready-waits c r)
 
 pub first-pointer : (job : Job) (c : Controller) → ready c ≡ true → starts (begins job) c .controller .pointer ≡ 0
 unfolding ready starts starting doesAll does
-first-pointer job c r = ap (λ (d : Controller). d .pointer) (begins-to job c (and-left _ _ r) (and-left _ _ (and-right _ _ r)))
+first-pointer job c r = ap (λ (d : Controller). d .pointer) (begins-to job c (and-left _ _ r) (ready-waits c r))
 
 pub begun : (job : Job) (payload : List ℕ) (c : Controller) → ready c ≡ true → length (c .buffer) ≡ 68 →
     Good job payload [] 0 (starts (begins job) c)
 unfolding ready
-begun job payload c r l = starts-good job c (and-left _ _ r) (and-left _ _ (and-right _ _ r)) payload l
+begun job payload c r l = good-begun job payload c (and-left _ _ r) (ready-waits c r) l

@@ -17,7 +17,10 @@ pub mod OneByteEach
 pub mod LostJobs
 pub mod NoneBegins
 pub mod ComesFrom
+pub mod ActsKeep
 pub mod ReasonLeft
 pub mod Accepted
+pub mod FlagsStay
+pub mod FlagsHeld
 pub mod Pointer
 pub mod Demand1

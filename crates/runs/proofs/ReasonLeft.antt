@@ -4,7 +4,7 @@ use mathlib.Core.Bool.{Bool, true, false, true≢false}
 use mathlib.Core.List.{List, [], _∷_}
 use mathlib.Core.Logic.{⊎-elim}
 use mathlib.Core.Path.{_≡_, refl, sym, ap, subst, _∙_}
-use Prim.Native.Nat.{ℕ, zero, suc, _+_}
+use Prim.Native.Nat.{ℕ, suc}
 use native.Mathlib.Omega.{arith}
 use borrow.Author.Tests.{eqb-true}
 use lib.Dec.{eqb, ltb}
@@ -27,6 +27,7 @@ use Rattle.laws.proofs.Status.{status-reads}
 use Rattle.notation.proofs.Among.{has, among-has, one-of, apart}
 use Rattle.notation.proofs.Cases.{if-true, if-false, and-no-left, split}
 use Rattle.notation.specs.Choice.{if_then_else_, _and_, _or_, among}
+use Rattle.runs.proofs.ActsKeep.{fetch-keeps}
 use Rattle.runs.proofs.Begins.{begun}
 use Rattle.runs.proofs.ComesFrom.{turnsBefore, event-comes}
 use Rattle.runs.proofs.Events.{lasting}
@@ -35,7 +36,7 @@ use Rattle.runs.proofs.Lines.{dataWork, job-lines}
 use Rattle.runs.specs.ReasonLeft.{endAnswers, reasonDone, reasonLeft, LeavesReason}
 use Rattle.service.proofs.AnyTable.{acts-leave}
 use Rattle.service.proofs.Formed.{Formed, formed}
-use Rattle.service.specs.Act.{Work, put, reads, fetchOne, fetch, does, doesAll, follows, performs}
+use Rattle.service.specs.Act.{Work, put, reads, does, doesAll, follows, performs}
 use Rattle.service.specs.JobSteps.{begins}
 use Rattle.service.specs.JobTable.{jobTable}
 use Rattle.service.specs.Progress.{starting}
@@ -43,7 +44,7 @@ use Rattle.service.specs.Serve.{starts, serve}
 use Rattle.service.specs.declared.job.Job.{Job}
 use Rattle.service.specs.declared.progress.Progress.{Progress}
 
--- The reason is kept by own STOP, by a write of another register than 2, and by a fetch.
+-- The reason is kept by own STOP, and by a write of another register than 2.
 stop-keeps : (c : Controller) (argument : ℕ) → eventOf c 4 argument .next .reason ≡ c .reason
 unfolding eventOf eventSound ownStop refuses waitsFor accepts if_then_else_ _or_
 stop-keeps c argument =
@@ -55,11 +56,6 @@ put-keeps : (c : Controller) (register value : ℕ) → eqb register 2 ≡ false
 unfolding put indirectAt
 put-keeps c k value e =
     reasons-follow c .write k value ∙ split (λ r. r ≡ c .reason) _ _ _ (λ _. refl) (λ _. if-false _ _ _ (and-no-left _ _ (and-no-left _ _ e)))
-
-fetch-keeps : (more i : ℕ) (p : Progress) → fetch more i p .controller .reason ≡ p .controller .reason
-unfolding fetch fetchOne
-fetch-keeps zero i p = refl
-fetch-keeps (suc more) i p = fetch-keeps more (i + 1) (fetchOne i p) ∙ reasons-follow (p .controller) .read 1
 
 -- where a byte was sent, or is sent now
 sent-some : (b : Bool) (sent : ℕ) → (b ≡ false → sent ≡ 0 → ⊥) → _≡_ {A = ℕ} (elim b [ true ↦ suc sent | false ↦ sent ]) 0 → ⊥
@@ -128,7 +124,8 @@ module _ {job : Job} {payload carried : List ℕ} {sent : ℕ} {p : Progress} (g
         (λ _. split P (eqb s 0x30) _ _ (λ t. let u = g .sending (is 0x30 t .0) in stops _ (λ _ z. omega (arith, u .3, z))
         (put-keeps _ 3 0x50 refl ∙ put-keeps _ 0 0 refl ∙ reasons-follow _ .read 2 ∙ put-keeps _ 0 7 refl ∙ is 0x30 t .1))
         (λ _. split P (eqb s 0x58) _ _ (λ t. let u = g .receiving (is 0x58 t .0) in
-        stops _ (λ _ z. omega (arith, u .3, z)) (put-keeps _ 3 0x50 refl ∙ fetch-keeps _ 0 _ ∙ is 0x58 t .1 ∙ ap reasonDone (sym (u .1))))
+        stops _ (λ _ z. omega (arith, u .3, z))
+        (put-keeps _ 3 0x50 refl ∙ fetch-keeps (λ c. c .reason) (λ _ _. refl) _ 0 _ ∙ is 0x58 t .1 ∙ ap reasonDone (sym (u .1))))
         (λ _. split P (eqb s 0x38) _ _ (λ t. ends _ refl (λ _. put-keeps _ 3 0x40 refl ∙ is 0x38 t .1))
         (λ _. split P (among s faults) _ _
         (λ t. ends _ refl (λ _. ⊎-elim (λ e. at 0x00 e .1) (⊎-elim (λ e. at 0x70 e .1) (λ e. at 0x78 e .1)) (one-of faults s t)))

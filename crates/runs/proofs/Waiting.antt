@@ -38,15 +38,15 @@ use Rattle.service.specs.Serve.{Table}
 use Rattle.service.specs.declared.job.Job.{Job}
 use Rattle.service.specs.declared.progress.Progress.{Progress}
 
-free-waits : among (kind turn.Free) waitingTurns ≡ true
+pub free-waits : among (kind turn.Free) waitingTurns ≡ true
 unfolding kind
 free-waits = among-has free waitingTurns
 
-busy-waits : among (kind turn.Busy) waitingTurns ≡ true
+pub busy-waits : among (kind turn.Busy) waitingTurns ≡ true
 unfolding kind
 busy-waits = among-has busy waitingTurns
 
-listen-waits : among (kind turn.Listen) waitingTurns ≡ true
+pub listen-waits : among (kind turn.Listen) waitingTurns ≡ true
 unfolding kind
 listen-waits = among-has listen waitingTurns
 

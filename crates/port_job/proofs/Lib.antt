@@ -1,0 +1,20 @@
+-- The port run against the model is the job: the proofs.
+pub mod Settles
+pub mod Drives
+pub mod InHand
+pub mod Flat
+pub mod Meets
+pub mod PortLines
+pub mod ControlByte
+pub mod Looks
+pub mod Ready
+pub mod EventsBetween
+pub mod Works
+pub mod Pair
+pub mod Script
+pub mod OneJob
+pub mod Recovery
+pub mod PortRecovers
+pub mod Between
+pub mod ItIsTheJob
+pub mod JobsAlone

@@ -1,0 +1,1 @@
+// No code: theorems of the port run against the model.
