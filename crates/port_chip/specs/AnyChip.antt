@@ -1,4 +1,4 @@
--- "Whatever the chip answers, by the rules or not": four claims about the port, in which the values that it hears are any list. The proofs are in
+-- Whatever the chip answers, by the rules or not: five claims about the port, in which the values that it hears are any list. The proofs are in
 -- proofs/AnyChip.antt.
 use mathlib.Core.Bool.{Bool, true, false}
 use mathlib.Core.List.{List, [], _∷_, _++_, map}
@@ -18,12 +18,12 @@ use Rattle.port.specs.declared.stage.Stage.the-variants.{Waiting, Interrupted}
 use Rattle.port_chip.specs.Passed.{Exchange, _gave_, afterAll, passed, rests}
 use Rattle.service.specs.declared.job.Job.{Job}
 
--- "between two waits there are at most so many accesses": never 73 in a row, from whatever state. (In a job 71: two looks, 68 bytes and one write of
+-- Between two waits there are at most so many accesses: never 73 in a row, from whatever state. (In a job 71: two looks, 68 bytes and one write of
 -- I2CCON; in a recovery 16. The 72nd is one that only a state which no call has made asks for.)
 abbrev pub Rests : Type 0
 Rests = (p : Port) (values : List ℕ) → length (p .payload) ≤ 68 → length values ≡ 72 → rests p values ≡ true
 
--- "`give up` ends it at once from any state": over with 27, and it stays so, whatever is heard after it
+-- Giving up ends it at once from any state: over with 27, and it stays so, whatever is heard after it.
 abbrev pub EndsAtOnce : Type 0
 EndsAtOnce = (p : Port) (values : List ℕ) → asking (afterAll (givenUp p) values) ≡ Over 27 0
 
@@ -43,8 +43,8 @@ AllLook (x ∷ xs) = (isLook (x .asked) ≡ true) × AllLook xs
 abbrev pub readsOf : List ℕ → List Exchange
 readsOf values = map (λ (value : ℕ). Read 1 gave value) values
 
--- "bytes are handed up only after status 58h was read, then n reads of I2CDAT, then I2CCON read with STO 0, SI 0 and ENSIO 1; and those handed up are exactly
--- the n values that these reads of this job returned, in order": what passed since the job began is so made up.
+-- What it takes to hand up bytes: status 58h was read, then I2CDAT n times, then I2CCON with ENSIO 1, SI 0 and STO 0, all in this job; and the bytes are
+-- exactly the n values that these reads gave, in order. What passed since the job began is so made up.
 pub record ProvenRead (job : Job) (exchanges : List Exchange) (handed : List ℕ) : Type 0 where
   pub before : List Exchange
   pub heard : ℕ
@@ -67,10 +67,10 @@ OnlyProven = (p : Port) (job : Job) (bytes : List ℕ) (values : List ℕ) (room
     let q = started p job bytes in
     let t = taken (afterAll q values) room in HandsUpProven job (passed q values) (t .answer) (t .handed)
 
--- "What the state's memory held before the start shows in no step and no byte handed up", but whether the chip has to be brought back
+-- What the state held before the start shows in nothing after it, but whether the chip has to be brought back: the whole state is the same.
 abbrev pub OldStateUnseen : Type 0
 OldStateUnseen = (p q : Port) (job : Job) (bytes : List ℕ) → unsettled (p .stand) ≡ unsettled (q .stand) → started p job bytes ≡ started q job bytes
 
--- "I2CSTA reads F8h after SI was 1": it waits on, with all that it has noted
+-- I2CSTA reads F8h though SI was 1 a moment before: it waits on, with all that it has noted, and no answer comes of it.
 abbrev pub WaitsOn : Type 0
 WaitsOn = (p : Port) → p .stand .stage ≡ Interrupted → (step p 0xF8 .stand ≡ atStage (p .stand) Waiting) × (asking (step p 0xF8) ≡ Wait)

@@ -28,7 +28,7 @@ pub record ReadyAgain (s : At) : Type 0 where
   pub looks : looksReady (s .chip) ≡ true
   pub isReady : ready (s .chip) ≡ true
 
--- a job gives "at each what the job gives: answer, number beside it, count, pairs taken, bytes sent, bytes handed up, and the record left"
+-- a job gives what the job of document 01 gives: answer, number beside it, count, pairs taken, bytes sent, bytes handed up, and the record left
 pub record JobHolds (asked : Job) (payload script : List ℕ) (s : At) : Type 0 where
   pub readyOrBusy : ReadyOrBusy s
   pub same : reported (played asked payload script s) ≡ portJobOf asked payload script (s .port .stand) (s .chip)
@@ -49,7 +49,7 @@ abbrev pub Each : List Item → At → Type 0
 Each [] s = Unit {0}
 Each (x ∷ xs) s = Holds x s × Each xs (leaves x s)
 
--- "from a recovery on through any list of jobs and recoveries", with what the bus does between them; in whatever state the port was found before it
+-- From a recovery on, through any list of jobs and recoveries, with what the bus does between them; in whatever state the port was found before it.
 abbrev pub ItIsTheJob : Type 0
 ItIsTheJob = (settings : List ℕ) (items : List Item) (s : At) → sound (s .chip) ≡ true → length (s .chip .buffer) ≡ 68 →
     badSettings settings ≡ false → Each (recovery settings ∷ items) s
