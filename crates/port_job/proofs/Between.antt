@@ -1,7 +1,7 @@
 -- What holds of port and controller between two items of a list, and that each item keeps it. Assumes nothing.
-use mathlib.Core.Bool.{true, false}
+use mathlib.Core.Bool.{Bool, true, false}
 use mathlib.Core.List.{List}
-use mathlib.Core.Path.{_≡_, sym, ap, subst, _∙_}
+use mathlib.Core.Path.{_≡_, refl, sym, ap, subst, _∙_}
 use Prim.Native.Nat.{ℕ}
 use lib.ListN.{length}
 use Rattle.controller.specs.Record.{sound}
@@ -12,7 +12,7 @@ use Rattle.port_job.proofs.EventsBetween.{event-keeps}
 use Rattle.port_job.proofs.OneJob.{JobLeaves, untouched, began, gives-job}
 use Rattle.port_job.proofs.PortRecovers.{declines, recovers-so}
 use Rattle.port_job.proofs.Ready.{Calm, freed, left-calm}
-use Rattle.port_job.specs.Items.{job, recovery, event, leaves}
+use Rattle.port_job.specs.Items.{Item, job, recovery, event, leaves}
 use Rattle.port_job.specs.OnModel.{At, at, Played, played}
 use Rattle.service.specs.declared.job.Job.{Job}
 
@@ -33,7 +33,7 @@ unchanged s t e u b =
     }
 
 -- an event
-pub event-between : (number argument : ℕ) (s : At) → Between s → Between (leaves (event number argument) s)
+event-between : (number argument : ℕ) (s : At) → Between s → Between (leaves (event number argument) s)
 unfolding leaves
 event-between number argument s b =
     let k = event-keeps (s .chip) number argument in
@@ -51,7 +51,7 @@ recovered-between settings s sc l b =
     let r = recovers-so settings s b sc .back in
     record { still-sound = r .still-sound; places = ap length (r .same) ∙ l; calm = λ _. left-calm (freed (r .freed)) }
 
-pub declined-between : (settings : List ℕ) (s : At) → Between s → badSettings settings ≡ true → Between (leaves (recovery settings) s)
+declined-between : (settings : List ℕ) (s : At) → Between s → badSettings settings ≡ true → Between (leaves (recovery settings) s)
 unfolding leaves
 declined-between settings s b bad = let d = declines settings s bad in unchanged s _ (d .same) (d .settles) b
 
@@ -64,3 +64,13 @@ pub job-between : (asked : Job) (payload script : List ℕ) (s : At) → Between
 unfolding leaves
 job-between asked payload script s b =
     after-job s (played asked payload script s) b (gives-job asked payload script s (b .still-sound) (b .places) (b .calm) .leaves)
+
+-- any item
+pub item-between : (x : Item) (s : At) → Between s → Between (leaves x s)
+item-between (job asked payload script) s b = job-between asked payload script s b
+item-between (event number argument) s b = event-between number argument s b
+item-between (recovery settings) s b = by-settings (badSettings settings) refl
+  where
+    by-settings : (x : Bool) → badSettings settings ≡ x → Between (leaves (recovery settings) s)
+    by-settings true e = declined-between settings s b e
+    by-settings false e = recovered-between settings s (b .still-sound) (b .places) e

@@ -1,18 +1,18 @@
 -- The port run against the model is the job. Assumes nothing.
-use mathlib.Core.Bool.{Bool, true, false, true≢false}
+use mathlib.Core.Bool.{true, false, true≢false}
 use mathlib.Core.List.{List, [], _∷_}
-use mathlib.Core.Path.{_≡_, refl, sym, _∙_}
+use mathlib.Core.Path.{_≡_, sym, _∙_}
 use Prim.Native.Nat.{ℕ}
 use Rattle.controller.specs.Record.{sound}
 use Rattle.notation.specs.Choice.{among}
 use Rattle.port.specs.Begin.{badSettings}
 use Rattle.port.specs.Port.{asking}
 use Rattle.port.specs.declared.ask.Ask.the-variants.{Over}
-use Rattle.port_job.proofs.Between.{Between, event-between, recovered-between, declined-between, job-between}
+use Rattle.port_job.proofs.Between.{Between, recovered-between, item-between}
 use Rattle.port_job.proofs.OneJob.{JobLeaves, untouched, began, gives-job}
 use Rattle.port_job.proofs.PortRecovers.{declines, recovers-so}
 use Rattle.port_job.proofs.Ready.{calm-looks, freed-looks, freed-ready}
-use Rattle.port_job.specs.ItIsTheJob.{ReadyAgain, JobHolds, RecoveryHolds, Each, ItIsTheJob}
+use Rattle.port_job.specs.ItIsTheJob.{ReadyAgain, JobHolds, RecoveryHolds, Holds, Each, ItIsTheJob}
 use Rattle.port_job.specs.Items.{Item, job, recovery, event, leaves}
 use Rattle.port_job.specs.OnModel.{At, at, Played, played}
 use Rattle.service.specs.declared.job.Job.{Job}
@@ -45,19 +45,14 @@ recovery-holds settings s sc = record { done = done; refused = λ b. let d = dec
         let k = r .back in
         (r .done, record { settled = r .settles; looks = freed-looks _ (k .still-sound) (k .freed); isReady = freed-ready _ (k .still-sound) (k .freed) })
 
--- whatever settings
-recovery-between : (settings : List ℕ) (s : At) → Between s → Between (leaves (recovery settings) s)
-recovery-between settings s b = by-settings (badSettings settings) refl
-  where
-    by-settings : (x : Bool) → badSettings settings ≡ x → Between (leaves (recovery settings) s)
-    by-settings true e = declined-between settings s b e
-    by-settings false e = recovered-between settings s (b .still-sound) (b .places) e
+holds : (x : Item) (s : At) → Between s → Holds x s
+holds (job asked payload script) s b = job-holds asked payload script s b
+holds (recovery settings) s b = recovery-holds settings s (b .still-sound)
+holds (event number argument) s b = tt
 
 each-holds : (items : List Item) (s : At) → Between s → Each items s
 each-holds [] s b = tt
-each-holds (job asked payload script ∷ items) s b = (job-holds asked payload script s b, each-holds items _ (job-between asked payload script s b))
-each-holds (recovery settings ∷ items) s b = (recovery-holds settings s (b .still-sound), each-holds items _ (recovery-between settings s b))
-each-holds (event number argument ∷ items) s b = (tt, each-holds items _ (event-between number argument s b))
+each-holds (x ∷ items) s b = (holds x s b, each-holds items _ (item-between x s b))
 
 pub it-is-the-job : ItIsTheJob
 it-is-the-job settings items s sc l b = (recovery-holds settings s sc, each-holds items _ (recovered-between settings s sc l b))

@@ -18,3 +18,5 @@ pub mod PortRecovers
 pub mod Between
 pub mod ItIsTheJob
 pub mod JobsAlone
+pub mod Traffic
+pub mod LooksFree

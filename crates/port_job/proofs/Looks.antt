@@ -10,7 +10,7 @@ use Rattle.controller.specs.Access.{indirectAt, barsRead, readSound, readOf}
 use Rattle.controller.specs.Record.{interrupts, sound}
 use Rattle.controller.specs.Reply.{accepts}
 use Rattle.controller.specs.declared.record.Controller.{Controller}
-use Rattle.notation.proofs.Cases.{if-true, if-false, and-true, and-no-left, and-no-right}
+use Rattle.notation.proofs.Cases.{if-true, if-false, and-true, and-no-right}
 use Rattle.notation.specs.Choice.{if_then_else_, _and_, among}
 use Rattle.port.specs.Hear.{looked, hears, notedAt, asks}
 use Rattle.port.specs.Look.{interruptIn}
@@ -56,6 +56,6 @@ module _ (s : Stand) (value : ℕ) where
       unfolding looked
       looks-stopped d t = if-false _ _ _ (ap not e) ∙ if-false _ _ _ i ∙ if-true _ _ _ (and-true _ _ d (ap not t))
 
-      pub looks-on : s .due ≡ false → looked s value ≡ atStage s Waiting
+      pub looks-on : (s .due and not (flagsOf value .sto)) ≡ false → looked s value ≡ atStage s Waiting
       unfolding looked
-      looks-on d = if-false _ _ _ (ap not e) ∙ if-false _ _ _ i ∙ if-false _ _ _ (and-no-left _ _ d)
+      looks-on d = if-false _ _ _ (ap not e) ∙ if-false _ _ _ i ∙ if-false _ _ _ d

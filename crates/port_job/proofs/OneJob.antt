@@ -25,6 +25,7 @@ use Rattle.port.specs.Look.{idleControl}
 use Rattle.port.specs.Port.{asking, started}
 use Rattle.port.specs.Stage.{stageNumber}
 use Rattle.port.specs.Stand.{stand, noJob}
+use Rattle.port.specs.declared.ask.Ask.the-variants.{Over}
 use Rattle.port.specs.declared.stage.Stage.the-variants as stage
 use Rattle.port.specs.declared.stage.Stage.{Stage}
 use Rattle.port.specs.declared.stand.Stand.{Stand}
@@ -37,10 +38,10 @@ use Rattle.port_job.proofs.Ready.{Calm, Looks, calm-looks}
 use Rattle.port_job.proofs.Script.{Leaves, Gives, over-plays, plays-run}
 use Rattle.port_job.proofs.Settles.{Reaches, there, rests}
 use Rattle.port_job.specs.Items.{looksReady, portJobOf}
-use Rattle.port_job.specs.OnModel.{At, Played, endsSo, noAccess, plays, settled, played, reported}
+use Rattle.port_job.specs.OnModel.{At, at, Played, endsSo, noAccess, plays, settled, played, reported}
 use Rattle.runs.proofs.Begins.{begins-to}
-use Rattle.runs.proofs.FlagsHeld.{held-begun, good-begun}
-use Rattle.runs.proofs.Invariant.{waitingTurns}
+use Rattle.runs.proofs.FlagsHeld.{Held, held-begun, good-begun}
+use Rattle.runs.proofs.Invariant.{waitingTurns, Good}
 use Rattle.service.proofs.Formed.{formed}
 use Rattle.service.specs.Act.{reads, does, doesAll}
 use Rattle.service.specs.JobSteps.{begins}
@@ -56,10 +57,17 @@ pub data JobLeaves (s : At) (r : Played) : Type 0 where
       among (r .result .answer) (0 ∷ 23 ∷ 24 ∷ []) ≡ false → JobLeaves s r
   began : Leaves r → JobLeaves s r
 
+-- where the port has come to rest when a job has begun: it is over, or it waits
+pub data Rests (asked : Job) (payload : List ℕ) (s : At) : Type 0 where
+  at-end : (answer : ℕ) → asking (s .port) ≡ Over answer 0 → Rests asked payload s
+  at-wait : {p : Progress} → unfit asked (length payload) ≡ false → Good asked payload [] 0 p → Held p → (w : Waits asked (keptOf asked payload) p) →
+      s ≡ waitsAt asked (keptOf asked payload) w → Rests asked payload s
+
 -- what a job gives
 pub record JobGives (asked : Job) (payload script : List ℕ) (s : At) (r : Played) : Type 0 where
   pub same : reported r ≡ portJobOf asked payload script (s .port .stand) (s .chip)
   pub leaves : JobLeaves s r
+  pub rested : Rests asked payload (settled (at (started (s .port) asked payload) (s .chip)))
 
 -- what a register read, where it is read and nothing changes
 as-read : (c : Controller) (register value : ℕ) → readOf c register ≡ accepts c value → readOf c register ≡ accepts c (reads c register)
@@ -98,13 +106,14 @@ module _ (asked : Job) (payload script : List ℕ) (s : At) where
   declines-so : (job : Job) (answer : ℕ) (stale : Bool) → eqb answer 0 ≡ false → among answer (0 ∷ 23 ∷ 24 ∷ []) ≡ false →
       stale ≡ unsettled (s .port .stand) → settled begun ≡ overAt job answer stale →
       portJobOf asked payload script (s .port .stand) c ≡ declines c answer → JobGives asked payload script s (played asked payload script s)
-  unfolding endsSo unsettled stageNumber starting asks asksAt _or_
+  unfolding endsSo unsettled stageNumber starting started asks asksAt _or_
   declines-so job answer stale z n u e d =
       subst (JobGives asked payload script s) (sym (played-from e))
       (record {
         same = declined job answer stale z ∙ sym d;
         leaves =
             subst (JobLeaves s) (sym (over-plays (overAt job answer stale) answer 0 0 script refl)) (untouched refl u n);
+        rested = subst (Rests asked payload) (sym e) (at-end answer refl);
       })
 
   abbrev Done : Type 0
@@ -191,18 +200,23 @@ module _ (asked : Job) (payload script : List ℕ) (s : At) where
           settles-at _ starts-so
           (reads-control (if-true _ _ _ (and-left _ _ ready)) (reads-status (if-true _ _ _ (and-right _ _ ready)) (writes-first .reaches))) refl (omega arith)
 
+      good : Good asked payload [] 0 first
+      good = good-begun asked payload c sc (looks .turn) places
+
+      held : Held first
+      held = held-begun asked c sc (looks .turn) (looks .sto)
+
       gives : Gives asked (plays (waitsAt asked kept waits) (first .events) script) (run (jobTable asked payload) first script)
-      gives =
-          plays-run payload (formed asked (length payload) 68 69 0 n) script [] 0 first (good-begun asked payload c sc (looks .turn) places)
-          (held-begun asked c sc (looks .turn) (looks .sto)) waits
+      gives = plays-run payload (formed asked (length payload) 68 69 0 n) script [] 0 first good held waits
 
       by-run : Done
-      unfolding starts starting doesAll does reported reports portJobOf
+      unfolding starts starting started doesAll does reported reports portJobOf
       by-run =
           subst (JobGives asked payload script s) (sym (played-from settles-waiting))
           (record {
             same = rw (gives .result, gives .sent, gives .handed) (sym (if-false _ _ _ n ∙ if-false _ _ _ u ∙ if-true _ _ _ ready));
             leaves = began (gives .leaves);
+            rested = subst (Rests asked payload) (sym settles-waiting) (at-wait n good held waits refl);
           })
 
   -- whatever the port knows and the registers tell

@@ -180,6 +180,6 @@ module _ {room places : ℕ} {job : Job} (payload : List ℕ) (form : Formed job
       either-way (eqb (o .refused) 0) _ _ _ _
       (λ e. sends-so event (o .value)
       (goes-on (woken (waitsAt job kept w .port) (o .next)) q rest (p .events + 1) (serve-events table event (taking p (o .next)))
-      (pair payload form g h event argument (eqb-true (o .refused) 0 e) w)
+      (pair g h w form event argument (eqb-true (o .refused) 0 e))
       (λ l. plays-run rest _ _ q (lasting table payload form (job-lines job payload) g event argument e l))))
       (λ _. breaks-so g h w 28 (o .refused) refl refl)

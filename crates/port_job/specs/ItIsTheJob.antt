@@ -1,5 +1,5 @@
 -- The port run against the model is the job, over any list of jobs and recoveries. The proofs are in proofs/ItIsTheJob.antt.
-use mathlib.Core.Bool.{Bool, true, false}
+use mathlib.Core.Bool.{true, false}
 use mathlib.Core.List.{List, [], _∷_}
 use mathlib.Core.Path.{_≡_}
 use Prim.Native.Nat.{ℕ, _%_}
@@ -7,11 +7,10 @@ use lib.Dec.{eqb}
 use lib.ListN.{length}
 use Rattle.control.specs.Turn.{free, busy, listen, waits}
 use Rattle.controller.specs.Record.{sound}
-use Rattle.controller.specs.declared.record.Controller.{Controller}
 use Rattle.driver.specs.Run.{jobOf}
-use Rattle.notation.specs.Choice.{if_then_else_, among}
+use Rattle.notation.specs.Choice.{among}
 use Rattle.port.specs.Begin.{unsettled, badSettings}
-use Rattle.port.specs.Port.{Port, asking}
+use Rattle.port.specs.Port.{asking}
 use Rattle.port.specs.declared.ask.Ask.the-variants.{Over}
 use Rattle.port_job.specs.Items.{Item, job, recovery, event, leaves, looksReady, portJobOf}
 use Rattle.port_job.specs.OnModel.{At, played, reported}

@@ -1,6 +1,6 @@
 -- A list of what happens to a dock: jobs, recoveries, and what the bus does between them.
-use mathlib.Core.Bool.{Bool, true, false}
-use mathlib.Core.List.{List, [], _∷_}
+use mathlib.Core.Bool.{Bool}
+use mathlib.Core.List.{List}
 use Prim.Native.Nat.{ℕ}
 use lib.Dec.{eqb}
 use lib.ListN.{length}
@@ -11,7 +11,7 @@ use Rattle.notation.specs.Choice.{if_then_else_, _and_}
 use Rattle.port.specs.Begin.{unfit, unsettled}
 use Rattle.port.specs.Look.{idleControl}
 use Rattle.port.specs.declared.stand.Stand.{Stand}
-use Rattle.port_job.specs.OnModel.{At, at, Played, played, recovered}
+use Rattle.port_job.specs.OnModel.{At, at, played, recovered}
 use Rattle.service.specs.Act.{reads}
 use Rattle.service.specs.JobSteps.{begins}
 use Rattle.service.specs.JobTable.{jobTable}

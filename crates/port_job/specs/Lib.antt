@@ -2,3 +2,5 @@
 pub mod OnModel
 pub mod Items
 pub mod ItIsTheJob
+pub mod Traffic
+pub mod Looks

@@ -1,6 +1,7 @@
 //! The proved library beside the independent model: the same inputs to both, and what they give
 //! compared byte for byte (binary `compare`), timed (`speed`; on ever longer inputs `scale`), or
-//! called for their instructions to be counted (`calls`).
+//! called for their instructions to be counted (`calls`). In [`port`] it is the port, libdock.a,
+//! that is held against the model (binary `port`); `port-cost` is for what that takes.
 
 #![forbid(unsafe_code)]
 #![warn(missing_docs)]
@@ -12,6 +13,7 @@ pub mod group;
 pub mod job_case;
 pub mod memory;
 pub mod pointer_byte;
+pub mod port;
 pub mod random;
 pub mod reference;
 pub mod row;

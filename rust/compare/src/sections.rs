@@ -11,7 +11,7 @@ pub const GIVEN: [u8; 28] = [
 ];
 
 /// The turns by their numbers in a log; Host at A0h after a START, 17, is counted apart.
-const TURN_NAMES: [(&str, usize); 13] = [
+pub const TURN_NAMES: [(&str, usize); 13] = [
     ("Off", 0),
     ("Host", 1),
     ("Free", 2),

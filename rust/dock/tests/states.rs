@@ -1,0 +1,128 @@
+//! The functions of `sys`: states that are too short or too long, and that a port is one of 148.
+
+use perlovasta_dock::{Port, STATE_LEN, Step, sys};
+
+/// Over with this answer, and count 0.
+fn over(answer: u8) -> Option<Step> {
+    Some(Step::Over { answer, count: 0 })
+}
+
+#[test]
+fn short_states() {
+    for length in 0..STATE_LEN {
+        let mut state = vec![0x55; length];
+        let steps = [
+            sys::start(&mut state, 1, 0x50, 3, &[]),
+            sys::start(&mut state, 0, 0x50, 1, &[9]),
+            sys::recover(&mut state, &[]),
+            sys::next(&mut state, 0),
+            sys::give_up(&mut state),
+        ];
+        assert_eq!(steps.map(Step::from_number), [over(21); 5]);
+        let mut destination = [0xEE; 68];
+        assert_eq!(sys::take(&state, &mut destination), 21);
+        assert_eq!(destination, [0xEE; 68]);
+        assert!(state.iter().all(|&byte| byte == 0x55));
+    }
+}
+
+#[test]
+fn the_rest_of_a_long_state_stays() {
+    for length in STATE_LEN..STATE_LEN + 40 {
+        let mut state = vec![0x55; length];
+        assert_eq!(Step::from_number(sys::next(&mut state, 0)), over(22));
+        let mut step = sys::recover(&mut state, &[4, 0xFF]);
+        while Step::from_number(step) != over(0) {
+            step = sys::next(&mut state, 0x55);
+        }
+        let begun = Step::from_number(sys::start(&mut state, 0, 0x50, 1, &[9]));
+        assert_eq!(begun, Some(Step::Read { register: 3 }));
+        assert!(state[STATE_LEN..].iter().all(|&byte| byte == 0x55));
+    }
+}
+
+#[test]
+fn wrong_kinds_data_and_settings() {
+    let mut state = [0; STATE_LEN];
+    for kind in 2..=u8::MAX {
+        let step = sys::start(&mut state, kind, 0x50, 1, &[9]);
+        assert_eq!(Step::from_number(step), over(21));
+    }
+    for length in 0..68 {
+        let step = sys::start(&mut state, 0, 0x50, length + 1, &vec![9; length.into()]);
+        assert_eq!(Step::from_number(step), over(21));
+    }
+    for length in [1, 3, 11, 13] {
+        let step = sys::recover(&mut state, &vec![0; length]);
+        assert_eq!(Step::from_number(step), over(21));
+    }
+}
+
+/// Random bytes from a seed.
+struct Bytes(u64);
+
+impl Bytes {
+    fn next(&mut self) -> u8 {
+        self.0 = self.0.wrapping_mul(6_364_136_223_846_793_005);
+        self.0 = self.0.wrapping_add(1_442_695_040_888_963_407);
+        (self.0 >> 56) as u8
+    }
+
+    /// A value for the next step after this one: often what a register has in a job.
+    fn value(&mut self, after: Step) -> u8 {
+        let often: &[u8] = match after {
+            Step::Read { register: 0 } => &[0xF8, 0x08, 0x18, 0x28, 0x40, 0x58],
+            Step::Read { register: 3 } => &[0x40, 0x48, 0x49],
+            _ => &[],
+        };
+        if often.is_empty() || self.next() < 4 {
+            return self.next();
+        }
+        often[usize::from(self.next()) % often.len()]
+    }
+}
+
+/// One random call of a port that is at this step, and the same of a state.
+fn call(bytes: &mut Bytes, at: Step, port: &mut Port, state: &mut [u8]) -> (Step, u32) {
+    let (address, n) = (8 + bytes.next() % 120, bytes.next() % 80);
+    match (bytes.next(), at) {
+        (0, _) => (port.give_up(), sys::give_up(state)),
+        (1, _) | (..64, Step::Over { .. }) => {
+            let settings = vec![(bytes.next() % 8, bytes.next()); usize::from(n % 8)];
+            let flat: Vec<u8> = settings.iter().flat_map(|&(p, v)| [p, v]).collect();
+            (port.recover(&settings), sys::recover(state, &flat))
+        }
+        (2, _) | (..160, Step::Over { .. }) => {
+            let step = port.start_read(address, n);
+            (step, sys::start(state, 1, address, n, &[]))
+        }
+        (3, _) | (.., Step::Over { .. }) => {
+            let data = vec![bytes.next(); n.into()];
+            let step = port.start_write(address, &data);
+            (step, sys::start(state, 0, address, n, &data))
+        }
+        _ => {
+            let value = bytes.value(at);
+            (port.next(value), sys::next(state, value))
+        }
+    }
+}
+
+#[test]
+fn a_port_is_a_state() {
+    let mut bytes = Bytes(9665);
+    let (mut port, mut state) = (Port::new(), [0; STATE_LEN]);
+    let mut step = port.next(0);
+    let mut taken = 0;
+    for _ in 0..200_000 {
+        let (next, number) = call(&mut bytes, step, &mut port, &mut state);
+        assert_eq!(Some(next), Step::from_number(number));
+        let (mut one, mut other) = ([0xEE; 68], [0xEE; 68]);
+        let why_not = sys::take(&state, &mut other);
+        assert_eq!(port.take(&mut one).err().unwrap_or(0), why_not);
+        assert_eq!(one, other);
+        taken += u32::from(why_not == 0);
+        step = next;
+    }
+    assert!(taken > 100, "{taken}");
+}
