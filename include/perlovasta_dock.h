@@ -1,31 +1,43 @@
 /*
  * Perlovasta in a dock: the proved driver for a PCA9665, asked for one register
- * access at a time. It makes none itself, so it runs on any board: the board
- * does what a step says, and hands the value that was read to the next step.
+ * access at a time. It makes none itself: the board does what a step says, and
+ * hands the value that was read to the next step.
+ *
+ *     static perlovasta_step run(perlovasta_step step) {
+ *         start the clock;
+ *         while (perlovasta_kind(step) != PERLOVASTA_OVER) {
+ *             uint8_t value = 0;
+ *             switch (perlovasta_kind(step)) {
+ *             case PERLOVASTA_WRITE_REGISTER: write register, value; break;
+ *             case PERLOVASTA_READ_REGISTER:  value = read register; break;
+ *             case PERLOVASTA_WAIT:  wait for an interrupt, 1 ms at most; break;
+ *             case PERLOVASTA_PAUSE: wait 550 us; break;
+ *             }
+ *             step = the clock ran out
+ *                  ? perlovasta_give_up(state, sizeof state)
+ *                  : perlovasta_next(state, sizeof state, value);
+ *         }
+ *         return step;
+ *     }
  *
  *     uint8_t state[PERLOVASTA_STATE] = {0};
- *     perlovasta_step step = perlovasta_recover(state, sizeof state, none, 0);
- *     .. run it as below, then for each badge ..
- *     step = perlovasta_start(state, sizeof state, 1, 0x50, 8, none, 0);
- *     while (perlovasta_kind(step) != PERLOVASTA_OVER) {
- *         uint8_t value = 0;
- *         switch (perlovasta_kind(step)) {
- *         case PERLOVASTA_WRITE_REGISTER: write register, value; break;
- *         case PERLOVASTA_READ_REGISTER:  value = read register; break;
- *         case PERLOVASTA_WAIT:           wait for the chip's interrupt; break;
- *         case PERLOVASTA_PAUSE:          wait 550 us; break;
- *         }
- *         step = the clock ran out ? perlovasta_give_up(state, sizeof state)
- *                                  : perlovasta_next(state, sizeof state, value);
- *     }
- *     if (perlovasta_take(state, sizeof state, badge, sizeof badge) == 0)
- *         .. the 8 bytes are those that the chip was read ..
+ *     step = run(perlovasta_recover(state, sizeof state, none, 0));
+ *     .. then for each badge ..
+ *     step = run(perlovasta_start(state, sizeof state, 1, 0x50, 8, none, 0));
+ *     if (perlovasta_answer(step) == 0 &&
+ *         perlovasta_take(state, sizeof state, badge, sizeof badge) == 0)
+ *         .. the 8 bytes are those that were read ..
  *
- * It keeps nothing but the state, needs no heap, calls nothing outside itself, is
- * re-entrant for different states, and is built for x86-64 Linux here.
+ * One state is for one chip, and one chip for one state: never copy a state,
+ * never restore an old one, fill it with zeros once before the first call. One
+ * call at a time: none from an interrupt while another is under way. A wait may
+ * end early, with nothing come: the port looks, and waits on. It must end now
+ * and then, since a chip interrupts neither at own STOP nor at a reset.
  *
- * A state of under 148 bytes is answered with 21 by every function, and nothing is
- * written. Between two waits, pauses or ends there are at most 71 accesses.
+ * It keeps nothing but the state, needs no heap, calls nothing outside itself, and
+ * is built for x86-64 Linux here. A state of under 148 bytes is answered with 21
+ * by every function, and nothing is written. Never more than 72 accesses come in a
+ * row, in a job never more than 71.
  *
  * For every pointer: it is never NULL, also where its length is 0 (`none` above
  * is a pointer to any byte); the bytes it lends are as many as its length says;
@@ -43,8 +55,9 @@
 #define PERLOVASTA_LOOK
 #endif
 
-/* Bytes of a state. Any content is answered: one that no call has written is
- * over with 22, and wants a recovery first. */
+/* Bytes of a state. Any content is answered, and zeros are a state that is over
+ * with 22 and wants a recovery first. (Bytes that begin with 50h 76h are taken
+ * for a state that a call has written.) */
 #define PERLOVASTA_STATE 148u
 
 /* The most settings that a recovery takes, in bytes: six pairs. */
@@ -57,7 +70,7 @@ typedef uint32_t perlovasta_step;
 enum perlovasta_step_kind {
     PERLOVASTA_WRITE_REGISTER = 1, /* the register, with the value */
     PERLOVASTA_READ_REGISTER = 2,  /* the register; its value is for the next step */
-    PERLOVASTA_WAIT = 3,           /* until the chip interrupts, or a while */
+    PERLOVASTA_WAIT = 3,           /* until the chip interrupts, 1 ms at most */
     PERLOVASTA_PAUSE = 4,          /* 550 us, for the chip's oscillator */
     PERLOVASTA_OVER = 5            /* nothing any more: the answer, and its count */
 };
@@ -83,8 +96,9 @@ static inline uint8_t perlovasta_answer(perlovasta_step step) {
     return (uint8_t)(step >> 8);
 }
 
-/* Of a step that is over: n for answer 0 of a job, for 24 the data bytes moved
- * with the one not acknowledged, else 0. */
+/* Of a step that is over: n for answer 0 of a job; for 24 what the board's
+ * counter at pointer 07h read, the data bytes moved with the one not
+ * acknowledged (a bare chip has no such register); else 0. */
 static inline uint8_t perlovasta_count(perlovasta_step step) {
     return (uint8_t)(step >> 16);
 }
@@ -94,8 +108,8 @@ extern "C" {
 #endif
 
 /*
- * A job begins. Its first step is given; a job that is refused is over at once,
- * and no access is made.
+ * A job begins. Its first step is given; a job that is refused with 21, or by
+ * its state with 22, is over at once, and no access is made.
  *
  * kind     0 write, 1 read; any other is answered 21
  * address  08h..77h, the seven-bit address
@@ -114,10 +128,11 @@ extern "C" {
  *      perlovasta_recover comes first
  *  23  address not acknowledged
  *  24  data byte not acknowledged
- *  25  arbitration lost. The chip stays at status 38h until another's STOP or a
- *      time-out; jobs begun before that are 22
+ *  25  arbitration lost. The chip stays at status 38h until another's STOP;
+ *      jobs begun before that are 22. Where 22 does not end: perlovasta_recover
  *  26  bus fault: status 00h, 70h or 78h; perlovasta_recover
- *  27  given up; perlovasta_recover
+ *  27  given up; perlovasta_recover. (It may hide a 25: the chip left 38h
+ *      between the look at I2CCON and that at I2CSTA)
  *  29  the chip was reset: ENSIO reads 0; perlovasta_recover
  */
 PERLOVASTA_LOOK perlovasta_step
@@ -131,8 +146,12 @@ perlovasta_start(uint8_t *state, size_t state_len, uint8_t kind, uint8_t address
  * then, and what was under way is given up. It leaves the pointer where the last
  * setting stands; a job sets its own.
  *
- * settings  pairs (pointer, value): 00h I2CCOUNT, 01h I2CADR, 02h I2CSCLL,
- *           03h I2CSCLH, 04h I2CTO, 06h I2CMODE
+ * settings  pairs (pointer, value): 00h I2CCOUNT, 01h I2CADR, 06h I2CMODE (the
+ *           data sheet wants it before the next two), 02h I2CSCLL, 03h I2CSCLH,
+ *           04h I2CTO
+ *
+ * 0 says that the writes were made: nothing is read back. The job after it looks
+ * at the chip first. After power-up the board waits 550 us before it.
  */
 PERLOVASTA_LOOK perlovasta_step
 perlovasta_recover(uint8_t *state, size_t state_len, const uint8_t *settings,
@@ -158,7 +177,8 @@ perlovasta_give_up(uint8_t *state, size_t state_len);
  * n bytes: its first n bytes are written then, and its rest stays. Else nothing
  * is written, and it returns why: 27 if it is not over; else the answer, if that
  * is not 0; else 21, since it was no read or the destination is too short. It
- * can be called again: the state stays as it is.
+ * can be called again: the state stays as it is, until the next start or
+ * recovery. So take the bytes right after the job, and look at its answer too.
  */
 PERLOVASTA_LOOK uint8_t
 perlovasta_take(const uint8_t *state, size_t state_len, uint8_t *destination,

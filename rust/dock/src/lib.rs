@@ -1,8 +1,12 @@
 //! The proved driver for a PCA9665, asked for one register access at a time.
 //!
-//! A [`Port`] makes no access itself, so it runs on any board: each of its methods gives the
-//! [`Step`] that the board has to do next, and the value that a register gave is handed to
-//! [`Port::next`]. It keeps nothing but its 148 bytes and needs no heap.
+//! A [`Port`] makes no access itself: each of its methods gives the [`Step`] that the board has to
+//! do next, and the value that a register gave is handed to [`Port::next`]. It keeps nothing but
+//! its 148 bytes and needs no heap.
+//!
+//! A chip interrupts neither at own STOP nor at a reset, so a wait has to end by itself now and
+//! then; the port looks, and waits on where nothing has come. [`Port::give_up`] is for when the
+//! time for the whole job is over.
 //!
 //! # A badge is read
 //!
@@ -20,7 +24,7 @@
 //!         match step {
 //!             Step::Write { register, value } => { /* write it */ }
 //!             Step::Read { register } => value = *registers.next().unwrap(),
-//!             Step::Wait => { /* until the chip interrupts */ }
+//!             Step::Wait => { /* until the chip interrupts, 1 ms at most */ }
 //!             Step::Pause => { /* for 550 us */ }
 //!             Step::Over { answer, count } => return (answer, count),
 //!         }

@@ -11,8 +11,8 @@ const TOO_MANY: u8 = u8::MAX;
 /// The driver of one chip. It makes no access itself: each method gives the [`Step`] that the board
 /// has to do next.
 ///
-/// A new one answers 22 to every job, until a [recovery](Port::recover) was run to its end.
-#[derive(Clone)]
+/// A new one answers 22 to every job, until a [recovery](Port::recover) was run to its end. One is
+/// for one chip, and there is no copy of it: an old one would not know what the chip is doing.
 pub struct Port {
     state: [u8; STATE_LEN],
 }
@@ -30,8 +30,8 @@ impl Port {
     /// I2CCON, and a pause. It is over with 0, or at once with 21 for more than six settings or one
     /// of another register.
     ///
-    /// A setting is a pointer and a value: 00h I2CCOUNT, 01h I2CADR, 02h I2CSCLL, 03h I2CSCLH,
-    /// 04h I2CTO, 06h I2CMODE.
+    /// A setting is a pointer and a value: 00h I2CCOUNT, 01h I2CADR, 06h I2CMODE (the data sheet
+    /// wants it before the next two), 02h I2CSCLL, 03h I2CSCLH, 04h I2CTO.
     pub fn recover(&mut self, settings: &[(u8, u8)]) -> Step {
         // One more than the library takes: it says what too many are answered.
         let mut pairs = [[0; 2]; SETTINGS + 1];
