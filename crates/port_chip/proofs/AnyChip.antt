@@ -3,6 +3,8 @@ use mathlib.Core.Bool.{Bool, true, false}
 use mathlib.Core.List.{List, [], _∷_}
 use mathlib.Core.Path.{_≡_, refl, sym, ap, subst, _∙_}
 use Prim.Native.Nat.{ℕ, _≤_}
+use borrow.Author.Tests.{eqb-false}
+use lib.Dec.{eqb}
 use lib.ListN.{length, replicate}
 use Rattle.address.specs.declared.number.Direction.the-variants.{Write, Read}
 use Rattle.address.specs.declared.number.Direction.{Direction}
@@ -18,34 +20,54 @@ use Rattle.port.specs.declared.stage.Stage.the-variants.{Waiting, Control}
 use Rattle.port.specs.declared.stage.Stage.{Stage}
 use Rattle.port.specs.declared.stand.Stand.{Stand}
 use Rattle.port_chip.proofs.Ahead.{ahead, at-most, rests-within}
-use Rattle.port_chip.proofs.OnlyProven.{Handed, no-read, begun}
-use Rattle.port_chip.specs.AnyChip.{Rests, EndsAtOnce, OnlyProven, OldStateUnseen, WaitsOn}
+use Rattle.port_chip.proofs.OfJob.{Fits}
+use Rattle.port_chip.proofs.OnlyProven.{atBeginning, Handed, no-read, begun, Done, done}
+use Rattle.port_chip.specs.AnyChip.{Rests, EndsAtOnce, OnlyProven, DoneOnlyAfter, OldStateUnseen, WaitsOn}
 use Rattle.port_chip.specs.Passed.{afterAll}
 use Rattle.service.proofs.Formed.{formed}
+use Rattle.service.specs.declared.job.Job.{Job}
 
 pub rests-always : Rests
 rests-always p values short e =
     rests-within values p short
     (subst (λ (k : ℕ). ahead (p .stand) (p .payload) ≤ k) (sym e) (at-most (p .payload) short (p .stand .stage) (p .stand)))
 
--- given up, whatever is noted after it
-given-up : (values payload fetched : List ℕ) →
-    asking (afterAll (record { stand = brokenOff 27 true; payload = payload; fetched = fetched }) values) ≡ Over 27 0
+-- given up or refused, whatever is noted after it
+stays-so : (answer : ℕ) (stale : Bool) (values payload fetched : List ℕ) →
+    asking (afterAll (record { stand = brokenOff answer stale; payload = payload; fetched = fetched }) values) ≡ Over answer 0
 unfolding afterAll step hears hearsAt asks asksAt
-given-up [] payload fetched = refl
-given-up (value ∷ values) payload fetched = given-up values payload _
+stays-so answer stale [] payload fetched = refl
+stays-so answer stale (value ∷ values) payload fetched = stays-so answer stale values payload _
 
 pub ends-at-once : EndsAtOnce
 unfolding givenUp giveUpOf
-ends-at-once p values = given-up values (p .payload) (p .fetched)
+ends-at-once p values = stays-so 27 true values (p .payload) (p .fetched)
+
+-- a start: refused, with another answer than 0, or the job is at its beginning
+at-start : (P : Stand → Type 0) (s : Stand) (job : Job) (dataLength : ℕ) → ((answer : ℕ) (stale : Bool) → eqb answer 0 ≡ false → P (brokenOff answer stale)) →
+    (Fits job → P (atBeginning job)) → P (startOf s job dataLength)
+unfolding startOf
+at-start P s job dataLength refused begins =
+    split P _ _ _ (λ _. refused 21 _ refl) (λ fit. split P _ _ _ (λ _. refused 22 true refl) (λ _. begins (formed job dataLength 68 69 0 fit .high)))
 
 pub only-proven : OnlyProven
-unfolding started startOf
+unfolding started
 only-proven p job bytes values room =
     let payload = padded (keptData (job .direction) (job .n) bytes) in
-    let P = Handed job payload values room in
-    split P _ _ _ (λ _. no-read job payload values room _ refl)
-    (λ fit. split P _ _ _ (λ _. no-read job payload values room _ refl) (λ _. begun job payload values room (formed job (length bytes) 68 69 0 fit .high)))
+    at-start (Handed job payload values room) (p .stand) job (length bytes) (λ _ _ _. no-read job payload values room _ refl)
+    (begun job payload values room)
+
+-- over with one answer and not with another
+one-answer : {a b c d : ℕ} → Over a b ≡ Over c d → a ≡ c
+one-answer e = cc
+
+pub done-only-after : DoneOnlyAfter
+unfolding started
+done-only-after p job bytes values count =
+    let payload = padded (keptData (job .direction) (job .n) bytes) in
+    at-start (Done job payload values count) (p .stand) job (length bytes)
+    (λ answer stale other e. absurd (eqb-false answer 0 other (one-answer (sym (stays-so answer stale values payload _) ∙ e))))
+    (done job payload values count)
 
 pub old-state-unseen : OldStateUnseen
 unfolding started startOf

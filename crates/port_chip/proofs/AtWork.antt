@@ -1,4 +1,4 @@
--- A read at work: each access of a line keeps what holds between the read and what passed. Assumes nothing.
+-- A job at work: each access of a line keeps what holds between the job and what passed. Assumes nothing.
 use mathlib.Core.Bool.{Bool, true, false, true≢false, false≢true}
 use mathlib.Core.List.{List, [], _∷_, _++_}
 use mathlib.Core.Path.{_≡_, sym, ap, subst, _∙_}
@@ -22,9 +22,10 @@ use Rattle.port.specs.declared.ask.Ask.the-variants.{Write, Read}
 use Rattle.port.specs.declared.stage.Stage.the-variants.{Waiting, Working}
 use Rattle.port.specs.declared.stand.Stand.{Stand}
 use Rattle.port_chip.proofs.ByTest.{by-test}
-use Rattle.port_chip.proofs.OfRead.{IsRead, At, OfRead}
-use Rattle.port_chip.proofs.ReadLine.{fetches, in-hand-at-58h, after-58h, length-fetches, fetch-made, fetch-last, fruitless, others-fruitless}
-use Rattle.port_chip.proofs.SinceRead.{Since58h, and-then, one-byte}
+use Rattle.port_chip.proofs.OfJob.{Fits, doneAt, At, OfJob}
+use Rattle.port_chip.proofs.DoneLine.{bytesOf, few-to-read, fetches, in-hand-when-done, after-done, length-fetches, fetch-made, fetch-last}
+use Rattle.port_chip.proofs.DoneLine.{fruitless, others-fruitless}
+use Rattle.port_chip.proofs.SinceStatus.{SinceStatus, and-then, one-byte}
 use Rattle.port_chip.specs.Passed.{Exchange, _gave_}
 use Rattle.service.specs.Act.{Act, Then, goesOn, awaits, ends, finishes}
 use Rattle.service.specs.JobTable.{jobTable}
@@ -33,19 +34,19 @@ pub off-and-on : {A : Type 0} {b : Bool} → b ≡ false → b ≡ true → A
 off-and-on off on = absurd (true≢false (sym on ∙ off))
 
 module _ {sofar : List Exchange} {fetched : List ℕ} (places : length fetched ≡ 68) where
-  pub holds : (s : Stand) → IsRead (s .job) → At (s .stage) s sofar fetched → OfRead sofar fetched s
-  holds s r a = record { isRead = r; places = places; at = a }
+  pub holds : (s : Stand) → Fits (s .job) → At (s .stage) s sofar fetched → OfJob sofar fetched s
+  holds s r a = record { fits = r; places = places; at = a }
 
   -- nothing is noted
-  pub unnoted : (value : ℕ) {s : Stand} → OfRead sofar fetched s → OfRead sofar (set fetched 68 value) s
-  unnoted value {s} r = subst (λ (f : List ℕ). OfRead sofar f s) (sym (set-out fetched 68 value (omega arith))) r
+  pub unnoted : (value : ℕ) {s : Stand} → OfJob sofar fetched s → OfJob sofar (set fetched 68 value) s
+  unnoted value {s} r = subst (λ (f : List ℕ). OfJob sofar f s) (sym (set-out fetched 68 value (omega arith))) r
 
   -- over with another answer
-  pub over-otherwise : (s : Stand) (answer count : ℕ) → eqb answer 0 ≡ false → IsRead (s .job) → OfRead sofar fetched (ended s answer count)
+  pub over-otherwise : (s : Stand) (answer count : ℕ) → eqb answer 0 ≡ false → Fits (s .job) → OfJob sofar fetched (ended s answer count)
   over-otherwise s answer count e r = holds (ended s answer count) r (λ z. absurd (eqb-false answer 0 e z))
 
-  -- what follows on a line but that at 58h
-  pub concluded : (after : Then) (s : Stand) → fruitless after ≡ true → IsRead (s .job) → s .due ≡ false → OfRead sofar fetched (concludes after s)
+  -- what follows on a line but that at which the job is done
+  pub concluded : (after : Then) (s : Stand) → fruitless after ≡ true → Fits (s .job) → s .due ≡ false → OfJob sofar fetched (concludes after s)
   unfolding concludes
   concluded goesOn s e r off = holds (atStage s Waiting) r (λ on _. off-and-on off on)
   concluded (awaits ending) s e r off = holds (awaiting s Waiting (numberOf ending)) r (λ _ z. absurd (eqb-false _ 0 (not-true _ e) z))
@@ -57,78 +58,83 @@ abbrev Heard : List Exchange → List ℕ → ℕ → Stand → List Act → The
 Heard sofar fetched value s xs after =
     let a = nth xs (s .made) in
     let t = withCount (atStage s Working) (countAfter a (s .count) value) in
-    OfRead (sofar ++ ((askFor a gave value) ∷ [])) (set fetched (placeOf a) value)
+    OfJob (sofar ++ ((askFor a gave value) ∷ [])) (set fetched (placeOf a) value)
     (if ltb (s .made + 1) (length xs) then advanced t else concludes after t)
 
 module _ {sofar : List Exchange} {fetched : List ℕ} (value : ℕ) where
-  -- one of the accesses at 58h
-  module _ (s : Stand) (r : OfRead sofar fetched (atStage s Working)) (at58h : s .status ≡ 0x58) where
+  -- one of the accesses at the status at which the job is done
+  module _ (s : Stand) (r : OfJob sofar fetched (atStage s Working)) (atDone : s .status ≡ doneAt (s .job)) where
+    abbrev Since : List Exchange → List ℕ → Type 0
+    Since passed bytes = SinceStatus (doneAt (s .job)) passed bytes []
+
     -- not the last: a byte is read
-    one-read : (count : ℕ) → s .made < s .job .n →
-        OfRead (sofar ++ ((Read 1 gave value) ∷ [])) (set fetched (s .made) value) (advanced (withCount (atStage s Working) count))
+    one-read : (count : ℕ) → s .made < bytesOf (s .job) →
+        OfJob (sofar ++ ((Read 1 gave value) ∷ [])) (set fetched (s .made) value) (advanced (withCount (atStage s Working) count))
     one-read count more =
-        let within : s .made < length fetched = omega (arith, r .places, r .isRead .fits) in
+        let within : s .made < length fetched = omega (arith, r .places, few-to-read (s .job .direction) (s .job .n) (r .fits)) in
         let bytes = ap (λ (k : ℕ). take k (set fetched (s .made) value)) (add-one (s .made)) ∙ take-suc-set fetched (s .made) value within in
-        holds (length-set fetched (s .made) value ∙ r .places) (advanced (withCount (atStage s Working) count)) (r .isRead) (record {
+        holds (length-set fetched (s .made) value ∙ r .places) (advanced (withCount (atStage s Working) count)) (r .fits) (record {
           off = r .at .off;
           listed = r .at .listed;
           reading = λ e.
-              (omega arith, subst (λ (xs : List ℕ). Since58h (sofar ++ ((Read 1 gave value) ∷ [])) xs []) (sym bytes) (one-byte (r .at .reading e .1) value));
+              (omega arith, subst (λ (xs : List ℕ). Since (sofar ++ ((Read 1 gave value) ∷ [])) xs) (sym bytes) (one-byte (r .at .reading e .1) value));
         })
 
     -- the last: 50h is written
-    stop-written : (count : ℕ) → s .made ≡ s .job .n →
-        OfRead (sofar ++ ((Write 3 0x50 gave value) ∷ [])) (set fetched 68 value) (concludes (awaits Done) (withCount (atStage s Working) count))
+    stop-written : (count : ℕ) → s .made ≡ bytesOf (s .job) →
+        OfJob (sofar ++ ((Write 3 0x50 gave value) ∷ [])) (set fetched 68 value) (concludes (awaits Done) (withCount (atStage s Working) count))
     unfolding concludes
     stop-written count all =
         unnoted (r .places) value
-        (holds (r .places) (awaiting (withCount (atStage s Working) count) Waiting 0) (r .isRead) (λ _ _. record {
+        (holds (r .places) (awaiting (withCount (atStage s Working) count) Waiting 0) (r .fits) (λ _ _. record {
           heard = value;
           looks = [];
-          since = and-then (subst (λ (k : ℕ). Since58h sofar (take k fetched) []) all (r .at .reading at58h .1)) (Write 3 0x50 gave value);
+          since = and-then (subst (λ (k : ℕ). Since sofar (take k fetched)) all (r .at .reading atDone .1)) (Write 3 0x50 gave value);
           allLook = tt;
         }))
 
-    read-on : Heard sofar fetched value s (fetches (s .job .n)) (awaits Done)
+    read-on : Heard sofar fetched value s (fetches (bytesOf (s .job))) (awaits Done)
     unfolding askFor placeOf
     read-on =
-        let n = s .job .n in
+        let n = bytesOf (s .job) in
         let t : Act → Stand = λ a. withCount (atStage s Working) (countAfter a (s .count) value) in
-        let P : Act → Stand → Type 0 = λ a u. OfRead (sofar ++ ((askFor a gave value) ∷ [])) (set fetched (placeOf a) value) u in
+        let P : Act → Stand → Type 0 = λ a u. OfJob (sofar ++ ((askFor a gave value) ∷ [])) (set fetched (placeOf a) value) u in
         let total = length-fetches n in
         split (P (nth (fetches n) (s .made))) _ _ _
         (λ e.
         let more : s .made < n = omega (arith, total, ltb-true (s .made + 1) (length (fetches n)) e) in
         subst (λ (a : Act). P a (advanced (t a))) (sym (fetch-made n (s .made) more)) (one-read _ more))
         (λ e.
-        let all : s .made ≡ n = omega (arith, total, r .at .reading at58h .0, ltb-false (s .made + 1) (length (fetches n)) e) in
+        let all : s .made ≡ n = omega (arith, total, r .at .reading atDone .0, ltb-false (s .made + 1) (length (fetches n)) e) in
         subst (λ (a : Act). P a (concludes (awaits Done) (t a))) (sym (ap (nth (fetches n)) all ∙ fetch-last n)) (stop-written _ all))
 
   -- one of the accesses at another status
-  work-on : (s : Stand) → OfRead sofar fetched (atStage s Working) → eqb (s .status) 0x58 ≡ false → (xs : List Act) (after : Then) →
+  work-on : (s : Stand) → OfJob sofar fetched (atStage s Working) → eqb (s .status) (doneAt (s .job)) ≡ false → (xs : List Act) (after : Then) →
       fruitless after ≡ true → Heard sofar fetched value s xs after
   work-on s r e xs after f =
       let a = nth xs (s .made) in
       let places = length-set fetched (placeOf a) value ∙ r .places in
-      split (OfRead (sofar ++ ((askFor a gave value) ∷ [])) (set fetched (placeOf a) value)) _ _ _
-      (λ _. holds places (advanced (withCount (atStage s Working) (countAfter a (s .count) value))) (r .isRead)
-      (record { off = r .at .off; listed = r .at .listed; reading = λ q. absurd (eqb-false (s .status) 0x58 e q) }))
-      (λ _. concluded places after _ f (r .isRead) (r .at .off))
+      split (OfJob (sofar ++ ((askFor a gave value) ∷ [])) (set fetched (placeOf a) value)) _ _ _
+      (λ _. holds places (advanced (withCount (atStage s Working) (countAfter a (s .count) value))) (r .fits)
+      (record { off = r .at .off; listed = r .at .listed; reading = λ q. absurd (eqb-false (s .status) (doneAt (s .job)) e q) }))
+      (λ _. concluded places after _ f (r .fits) (r .at .off))
 
 module _ (sofar : List Exchange) (fetched : List ℕ) (payload : List ℕ) (value : ℕ) where
   -- the value is heard
   abbrev pub Hears : Stand → Type 0
-  Hears s = OfRead (sofar ++ ((asks s payload gave value) ∷ [])) (set fetched (notedAt s payload) value) (hears s payload value)
+  Hears s = OfJob (sofar ++ ((asks s payload gave value) ∷ [])) (set fetched (notedAt s payload) value) (hears s payload value)
 
   -- at whatever status
-  pub at-work : (s : Stand) → OfRead sofar fetched (atStage s Working) → Hears (atStage s Working)
+  pub at-work : (s : Stand) → OfJob sofar fetched (atStage s Working) → Hears (atStage s Working)
   unfolding hears hearsAt asks asksAt notedAt stageNumber if_then_else_ inHandAt
   at-work s r =
+      let d = s .job .direction in
       let line = jobTable (s .job) payload (s .status) (s .count) in
       let P = Heard sofar fetched value s in
-      by-test (eqb (s .status) 0x58)
+      by-test (eqb (s .status) (doneAt (s .job)))
       (λ e.
-      let at58h = eqb-true (s .status) 0x58 e in
-      subst (λ (xs : List Act). P xs (line .after)) (sym (in-hand-at-58h (s .job) payload (s .status) (s .count) at58h (r .isRead .fits)))
-      (subst (λ (a : Then). P (fetches (s .job .n)) a) (sym (after-58h (s .job) payload (s .status) (s .count) at58h)) (read-on value s r at58h)))
-      (λ e. work-on value s r e _ (line .after) (others-fruitless (s .job) payload (s .status) (s .count) (r .at .listed) e))
+      let atDone = eqb-true (s .status) (doneAt (s .job)) e in
+      subst (λ (xs : List Act). P xs (line .after)) (sym (in-hand-when-done (s .job) payload (s .status) (s .count) d atDone (r .fits)))
+      (subst (λ (a : Then). P (fetches (bytesOf (s .job))) a) (sym (after-done (s .job) payload (s .status) (s .count) d atDone))
+      (read-on value s r atDone)))
+      (λ e. work-on value s r e _ (line .after) (others-fruitless (s .job) payload (s .count) d (s .status) (r .at .listed) e))

@@ -1,4 +1,4 @@
--- Every step of a read keeps what holds between it and what passed since it began. Assumes nothing.
+-- Every step of a job keeps what holds between it and what passed since it began. Assumes nothing.
 use mathlib.Core.Bool.{Bool, true, false, not}
 use mathlib.Core.List.{List, [], _∷_, _++_}
 use mathlib.Core.Path.{_≡_, refl, sym, ap, subst, _∙_}
@@ -6,9 +6,7 @@ use Prim.Native.Nat.{ℕ, _+_}
 use native.Mathlib.Omega.{arith}
 use borrow.Author.Tests.{eqb-true, not-false}
 use lib.Dec.{eqb, ltb}
-use lib.ListN.{length, set}
-use lib.Seq.{length-take-le}
-use Rattle.address.specs.declared.number.Direction.{Direction}
+use lib.ListN.{length, take, set}
 use Rattle.notation.proofs.Cases.{and-true, and-left, and-right, split}
 use Rattle.notation.specs.Choice.{if_then_else_, among}
 use Rattle.port.specs.Ask.{askFor}
@@ -23,10 +21,10 @@ use Rattle.port.specs.declared.stage.Stage.{Stage}
 use Rattle.port.specs.declared.stand.Stand.{Stand}
 use Rattle.port_chip.proofs.AtWork.{off-and-on, holds, unnoted, over-otherwise, concluded, Hears, at-work}
 use Rattle.port_chip.proofs.ByTest.{by-test}
-use Rattle.port_chip.proofs.OfRead.{IsRead, Between, OfRead}
-use Rattle.port_chip.proofs.ReadLine.{fetches, in-hand-at-58h, length-fetches, others-fruitless}
-use Rattle.port_chip.proofs.SinceRead.{and-then, look-more}
-use Rattle.port_chip.specs.AnyChip.{isLook}
+use Rattle.port_chip.proofs.OfJob.{Fits, doneAt, Between, OfJob}
+use Rattle.port_chip.proofs.DoneLine.{bytesOf, fetches, in-hand-when-done, length-fetches, others-fruitless}
+use Rattle.port_chip.proofs.SinceStatus.{and-then, look-more}
+use Rattle.port_chip.specs.AnyChip.{isLook, readsOf}
 use Rattle.port_chip.specs.Passed.{Exchange, _gave_, isOver}
 use Rattle.service.specs.Act.{Act, writes, readsData, readsAll, readsCount, counts}
 use Rattle.service.specs.JobTable.{jobTable}
@@ -36,7 +34,7 @@ unfolding isLook among if_then_else_
 reads-control = refl
 
 -- an access is not the end
-access-asked : (a : Act) → isOver (askFor a) ≡ false
+pub access-asked : (a : Act) → isOver (askFor a) ≡ false
 unfolding isOver askFor
 access-asked (writes register value) = refl
 access-asked (readsData at) = refl
@@ -44,40 +42,40 @@ access-asked readsAll = refl
 access-asked readsCount = refl
 access-asked (counts count) = refl
 
--- there is an access in hand at 58h
+-- there is an access in hand at the status at which the job is done
 some : (n : ℕ) → length (fetches n) ≡ 0 → ⊥
 some n e = omega (arith, length-fetches n, e)
 
-chosen : {sofar : List Exchange} {fetched : List ℕ} (b : Bool) {x y : Stand} → OfRead sofar fetched x → OfRead sofar fetched y →
-    OfRead sofar fetched (if b then x else y)
-chosen {sofar} {fetched} b {x} {y} f g = split (OfRead sofar fetched) b x y (λ _. f) (λ _. g)
+chosen : {sofar : List Exchange} {fetched : List ℕ} (b : Bool) {x y : Stand} → OfJob sofar fetched x → OfJob sofar fetched y →
+    OfJob sofar fetched (if b then x else y)
+chosen {sofar} {fetched} b {x} {y} f g = split (OfJob sofar fetched) b x y (λ _. f) (λ _. g)
 
 module _ (sofar : List Exchange) (fetched : List ℕ) (payload : List ℕ) (value : ℕ) where
   -- the work at a status is entered
-  entered : (s : Stand) → IsRead (s .job) → length fetched ≡ 68 → among value (meets (s .job .direction)) ≡ true →
-      OfRead (sofar ++ ((Read 0 gave value) ∷ [])) fetched (enters s value (jobTable (s .job) payload value (s .count)))
+  entered : (s : Stand) → Fits (s .job) → length fetched ≡ 68 → among value (meets (s .job .direction)) ≡ true →
+      OfJob (sofar ++ ((Read 0 gave value) ∷ [])) fetched (enters s value (jobTable (s .job) payload value (s .count)))
   unfolding enters
   entered s r places e =
-      let listed = subst (λ (d : Direction). among value (meets d) ≡ true) (r .reads) e in
+      let d = s .job .direction in
       let work = jobTable (s .job) payload value (s .count) in
-      split (OfRead (sofar ++ ((Read 0 gave value) ∷ [])) fetched) _ _ _
-      (λ none. by-test (eqb value 0x58)
+      split (OfJob (sofar ++ ((Read 0 gave value) ∷ [])) fetched) _ _ _
+      (λ none. by-test (eqb value (doneAt (s .job)))
       (λ q.
-      let inHand = in-hand-at-58h (s .job) payload value (s .count) (eqb-true value 0x58 q) (r .fits) in
-      absurd (some (s .job .n) (sym (ap length inHand) ∙ eqb-true _ 0 none)))
-      (λ q. concluded places (work .after) _ (others-fruitless (s .job) payload value (s .count) listed q) r refl))
+      let inHand = in-hand-when-done (s .job) payload value (s .count) d (eqb-true value (doneAt (s .job)) q) r in
+      absurd (some (bytesOf (s .job)) (sym (ap length inHand) ∙ eqb-true _ 0 none)))
+      (λ q. concluded places (work .after) _ (others-fruitless (s .job) payload (s .count) d value e q) r refl))
       (λ _. holds places (atWork s Working value (notes (s .count) (work .acts))) r (record {
         off = refl;
-        listed = listed;
+        listed = e;
         reading = λ q. (omega arith, record { before = sofar; madeUp = ap (λ (k : ℕ). sofar ++ ((Read 0 gave k) ∷ [])) q });
       }))
 
   -- after a wait, by I2CCON
-  after-look : (s : Stand) → IsRead (s .job) → length fetched ≡ 68 → Between s sofar fetched →
-      OfRead (sofar ++ ((Read 3 gave value) ∷ [])) fetched (looked s value)
+  after-look : (s : Stand) → Fits (s .job) → length fetched ≡ 68 → Between s sofar fetched →
+      OfJob (sofar ++ ((Read 3 gave value) ∷ [])) fetched (looked s value)
   unfolding looked stoppedControl
   after-look s r places b =
-      let P = OfRead (sofar ++ ((Read 3 gave value) ∷ [])) fetched in
+      let P = OfJob (sofar ++ ((Read 3 gave value) ∷ [])) fetched in
       let more : Between s (sofar ++ ((Read 3 gave value) ∷ [])) fetched = λ on z. look-more (b on z) (Read 3) value reads-control in
       split P _ _ _ (λ _. over-otherwise places s 29 0 refl r)
       (λ ensio. split P _ _ _ (λ _. holds places (atStage s Interrupted) r more)
@@ -86,15 +84,17 @@ module _ (sofar : List Exchange) (fetched : List ℕ) (payload : List ℕ) (valu
       let asked = b (and-left _ _ e) z in
       let since = and-then (asked .since) (Read 3 gave value) in
       record {
-        before = since .before;
-        heard = asked .heard;
-        looks = asked .looks;
-        control = value;
-        madeUp = since .madeUp;
-        allLook = asked .allLook;
-        stopped = and-true _ _ (not-false _ ensio) (and-true _ _ (ap not quiet) (and-right _ _ e));
-        number = length-take-le (s .job .n) fetched (omega (arith, places, r .fits));
-        isRead = r .reads;
+        done = record {
+          before = since .before;
+          between = readsOf (take (bytesOf (s .job)) fetched);
+          heard = asked .heard;
+          looks = asked .looks;
+          control = value;
+          madeUp = since .madeUp;
+          allLook = asked .allLook;
+          stopped = and-true _ _ (not-false _ ensio) (and-true _ _ (ap not quiet) (and-right _ _ e));
+        };
+        fetched = refl;
       }))
       (λ _. holds places (atStage s Waiting) r more)))
 
@@ -105,31 +105,31 @@ module _ (sofar : List Exchange) (fetched : List ℕ) (payload : List ℕ) (valu
 
   -- a step at which nothing is noted
   notes-nothing : {s : Stand} → length fetched ≡ 68 → isOver (asks s payload) ≡ false → notedAt s payload ≡ 68 →
-      OfRead (sofar ++ ((asks s payload gave value) ∷ [])) fetched (hears s payload value) → Stepped s
+      OfJob (sofar ++ ((asks s payload gave value) ∷ [])) fetched (hears s payload value) → Stepped s
   notes-nothing {s} places o e r =
-      goes o (subst (λ (k : ℕ). OfRead (sofar ++ ((asks s payload gave value) ∷ [])) (set fetched k value) (hears s payload value)) (sym e)
+      goes o (subst (λ (k : ℕ). OfJob (sofar ++ ((asks s payload gave value) ∷ [])) (set fetched k value) (hears s payload value)) (sym e)
       (unnoted places value r))
 
-  pub stepped : (x : Stage) (s : Stand) → OfRead sofar fetched (atStage s x) → Stepped (atStage s x)
+  pub stepped : (x : Stage) (s : Stand) → OfJob sofar fetched (atStage s x) → Stepped (atStage s x)
   unfolding hears hearsAt asks asksAt notedAt stageNumber if_then_else_ onward isOver isLook among
   stepped Over s r = stays refl refl refl
   stepped Control s r =
       notes-nothing (r .places) refl refl
-      (chosen (idleControl value) (holds (r .places) (atStage s Status) (r .isRead) (r .at)) (over-otherwise (r .places) s 22 0 refl (r .isRead)))
+      (chosen (idleControl value) (holds (r .places) (atStage s Status) (r .fits) (r .at)) (over-otherwise (r .places) s 22 0 refl (r .fits)))
   stepped Status s r =
       notes-nothing (r .places) refl refl
-      (chosen (eqb value 0xF8) (holds (r .places) (atFirst s First) (r .isRead) (r .at)) (over-otherwise (r .places) s 22 0 refl (r .isRead)))
+      (chosen (eqb value 0xF8) (holds (r .places) (atFirst s First) (r .fits) (r .at)) (over-otherwise (r .places) s 22 0 refl (r .fits)))
   stepped First s r =
       notes-nothing (r .places) (access-asked _) refl
-      (chosen (ltb (s .made + 1) (length (inHand (atStage s First) payload))) (holds (r .places) (advanced (atStage s First)) (r .isRead) (r .at))
-      (holds (r .places) (atStage s Waiting) (r .isRead) (λ on _. off-and-on (r .at) on)))
+      (chosen (ltb (s .made + 1) (length (inHand (atStage s First) payload))) (holds (r .places) (advanced (atStage s First)) (r .fits) (r .at))
+      (holds (r .places) (atStage s Waiting) (r .fits) (λ on _. off-and-on (r .at) on)))
   stepped Waiting s r =
-      notes-nothing (r .places) refl refl (holds (r .places) (atStage s Look) (r .isRead) (λ on z. look-more (r .at on z) Wait value refl))
-  stepped Look s r = notes-nothing (r .places) refl refl (after-look (atStage s Look) (r .isRead) (r .places) (r .at))
+      notes-nothing (r .places) refl refl (holds (r .places) (atStage s Look) (r .fits) (λ on z. look-more (r .at on z) Wait value refl))
+  stepped Look s r = notes-nothing (r .places) refl refl (after-look (atStage s Look) (r .fits) (r .places) (r .at))
   stepped Interrupted s r =
       notes-nothing (r .places) refl refl
-      (split (OfRead _ fetched) (among value (meets (s .job .direction))) _ _ (entered (atStage s Interrupted) (r .isRead) (r .places))
-      (λ _. holds (r .places) (atStage s Waiting) (r .isRead) (λ on z. look-more (r .at on z) (Read 0) value refl)))
+      (split (OfJob _ fetched) (among value (meets (s .job .direction))) _ _ (entered (atStage s Interrupted) (r .fits) (r .places))
+      (λ _. holds (r .places) (atStage s Waiting) (r .fits) (λ on z. look-more (r .at on z) (Read 0) value refl)))
   stepped Working s r = goes (access-asked _) (at-work sofar fetched payload value s r)
   stepped Recovering s r = absurd (r .at)
   stepped Pausing s r = absurd (r .at)

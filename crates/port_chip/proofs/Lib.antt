@@ -2,9 +2,9 @@
 pub mod ByTest
 pub mod InHand
 pub mod Ahead
-pub mod ReadLine
-pub mod SinceRead
-pub mod OfRead
+pub mod DoneLine
+pub mod SinceStatus
+pub mod OfJob
 pub mod AtWork
 pub mod Kept
 pub mod JobStays

@@ -1,29 +1,32 @@
--- Bytes are handed up of a proven read alone. Assumes nothing.
+-- Bytes are handed up of a proven read alone, and a job is done only after own STOP. Assumes nothing.
 use mathlib.Core.Bool.{true, false, true≢false, false≢true}
 use mathlib.Core.List.{List, [], _∷_, _++_, append-nil}
 use mathlib.Core.Path.{_≡_, refl, sym, ap, subst, _∙_}
-use Prim.Native.Nat.{ℕ, _≤_}
+use Prim.Native.Nat.{ℕ}
 use native.Mathlib.Omega.{arith}
 use borrow.Author.Tests.{eqb-true, eqb-false, not-true, not-false}
 use lib.Dec.{eqb}
-use lib.ListN.{take, set, replicate, length-replicate}
-use lib.Seq.{append-snoc, set-out}
+use lib.ListN.{length, take, set, replicate, length-replicate}
+use lib.Seq.{append-snoc, set-out, length-take-le}
 use Rattle.address.specs.Number.{bitOf}
 use Rattle.address.specs.declared.number.Direction.the-variants.{Write, Read}
 use Rattle.address.specs.declared.number.Direction.{Direction}
 use Rattle.notation.proofs.Cases.{if-true, if-false, or-left-off, split}
 use Rattle.port.specs.HandUp.{Taken, takeDone, takeOf}
-use Rattle.port.specs.Hear.{notedAt}
+use Rattle.port.specs.Hear.{notedAt, asksAt, asks}
 use Rattle.port.specs.Port.{Port, step, asking, taken}
 use Rattle.port.specs.Stage.{over, stageNumber}
 use Rattle.port.specs.Stand.{stand}
+use Rattle.port.specs.declared.ask.Ask.the-variants as ask
+use Rattle.port.specs.declared.ask.Ask.{Ask}
 use Rattle.port.specs.declared.stage.Stage.the-variants.{Over, Control, Status, First, Waiting, Look, Interrupted, Working, Recovering, Pausing}
 use Rattle.port.specs.declared.stage.Stage.{Stage}
 use Rattle.port.specs.declared.stand.Stand.{Stand}
 use Rattle.port_chip.proofs.JobStays.{job-stays}
-use Rattle.port_chip.proofs.Kept.{Stepped, stays, goes, stepped}
-use Rattle.port_chip.proofs.OfRead.{IsRead, At, OfRead}
-use Rattle.port_chip.specs.AnyChip.{ProvenRead, HandsUpProven}
+use Rattle.port_chip.proofs.Kept.{access-asked, Stepped, stays, goes, stepped}
+use Rattle.port_chip.proofs.OfJob.{Fits, DoneWith, At, OfJob}
+use Rattle.port_chip.proofs.DoneLine.{toRead, bytesOf}
+use Rattle.port_chip.specs.AnyChip.{readsOf, ProvenRead, HandsUpProven, doneStatus, DoneSo}
 use Rattle.port_chip.specs.Passed.{Exchange, _gave_, isOver, afterAll, passed}
 use Rattle.service.specs.declared.job.Job.{Job}
 
@@ -34,9 +37,9 @@ no-more [] p o = refl
 no-more (value ∷ values) p o = if-true _ _ _ o
 
 abbrev Shown : List Exchange → Port → Type 0
-Shown sofar p = OfRead sofar (p .fetched) (p .stand)
+Shown sofar p = OfJob sofar (p .fetched) (p .stand)
 
--- one step of a read, with what holds of those after it
+-- one step of a job, with what holds of those after it
 one-step : (sofar : List Exchange) (p : Port) (value : ℕ) (values : List ℕ) → Shown sofar p →
     Stepped sofar (p .fetched) (p .payload) value (p .stand) →
     ((before : List Exchange) (q : Port) → Shown before q → Shown (before ++ passed q values) (afterAll q values)) →
@@ -101,29 +104,89 @@ module _ (job : Job) (exchanges : List Exchange) where
         none = λ e. absurd (true≢false e);
       })))
 
--- a job that stands so at its beginning
-module _ (job : Job) (payload values : List ℕ) (room : ℕ) where
-  abbrev pub from : Stand → Port
-  from s = record { stand = s; payload = payload; fetched = replicate 68 0 }
+-- a read that is done: the bytes that it has read
+proven : (job : Job) (exchanges : List Exchange) (fetched : List ℕ) → Fits job → length fetched ≡ 68 → job .direction ≡ Read →
+    DoneWith job exchanges (take (bytesOf job) fetched) → ProvenRead job exchanges (take (job .n) fetched)
+proven job exchanges fetched fits places isRead w =
+    let done = w .done in
+    let made : Direction → List Exchange → List Exchange = λ d between.
+    done .before
+    ++ ((ask.Read 0 gave doneStatus d) ∷ (between ++ ((ask.Write 3 0x50 gave done .heard) ∷ (done .looks ++ ((ask.Read 3 gave done .control) ∷ []))))) in
+    let bytes = w .fetched ∙ ap (λ (d : Direction). readsOf (take (toRead d (job .n)) fetched)) isRead in
+    record {
+      before = done .before;
+      heard = done .heard;
+      looks = done .looks;
+      control = done .control;
+      madeUp = done .madeUp ∙ ap (λ (d : Direction). made d (done .between)) isRead ∙ ap (made Read) bytes;
+      allLook = done .allLook;
+      stopped = done .stopped;
+      number = length-take-le (job .n) fetched (omega (arith, places, fits));
+      isRead = isRead;
+    }
 
-  abbrev pub Handed : Stand → Type 0
-  Handed s = let t = taken (afterAll (from s) values) room in HandsUpProven job (passed (from s) values) (t .answer) (t .handed)
+not-yet : {A : Type 0} {x : Ask} {answer count : ℕ} → isOver x ≡ false → x ≡ ask.Over answer count → A
+unfolding isOver
+not-yet off e = absurd (true≢false (sym (ap isOver e) ∙ off))
 
-  -- a write, and a job that was not begun
-  pub no-read : (s : Stand) → s .job .direction ≡ Write → Handed s
-  no-read s w =
-      let p = afterAll (from s) values in
-      hands-up job (passed (from s) values) (p .stand) (p .fetched) room
-      (λ _ _ d. write-no-read (ap (λ (j : Job). j .direction) (job-stays values (from s)) ∙ w) d)
+-- over with this answer is asked for at one stage alone
+over-asked : (x : Stage) (s : Stand) (payload : List ℕ) (answer count : ℕ) → asksAt x s payload ≡ ask.Over answer count → (x ≡ Over) × (s .answer ≡ answer)
+unfolding asksAt isOver
+over-asked Over s payload answer count e = (refl, cc)
+over-asked Control s payload answer count e = not-yet refl e
+over-asked Status s payload answer count e = not-yet refl e
+over-asked First s payload answer count e = not-yet (access-asked _) e
+over-asked Waiting s payload answer count e = not-yet refl e
+over-asked Look s payload answer count e = not-yet refl e
+over-asked Interrupted s payload answer count e = not-yet refl e
+over-asked Working s payload answer count e = not-yet (access-asked _) e
+over-asked Recovering s payload answer count e = not-yet (access-asked _) e
+over-asked Pausing s payload answer count e = not-yet refl e
 
-  pub begun : job .n ≤ 68 → Handed (stand Control job 0 0 false 27 0 false)
-  begun fits =
-      let q = from (stand Control job 0 0 false 27 0 false) in
-      let p = afterAll q values in
-      let same = job-stays values q in
-      hands-up job (passed q values) (p .stand) (p .fetched) room
-      (λ o a d.
-      let isRead : IsRead job = record { reads = ap (λ (j : Job). j .direction) (sym same) ∙ d; fits = fits } in
-      let r = all-steps values [] q (record { isRead = isRead; places = length-replicate {A = ℕ} 68 0; at = refl }) in
-      subst (λ (j : Job). ProvenRead j (passed q values) (take (p .stand .job .n) (p .fetched))) same
-      (subst (λ (x : Stage). At x (p .stand) (passed q values) (p .fetched)) o (r .at) a))
+abbrev pub from : List ℕ → Stand → Port
+from payload s = record { stand = s; payload = payload; fetched = replicate 68 0 }
+
+abbrev pub atBeginning : Job → Stand
+atBeginning job = stand Control job 0 0 false 27 0 false
+
+module _ (job : Job) (payload values : List ℕ) where
+  -- what holds of a job that was begun
+  reached : Fits job → let q = from payload (atBeginning job) in Shown (passed q values) (afterAll q values)
+  reached fits = all-steps values [] (from payload (atBeginning job)) (record { fits = fits; places = length-replicate {A = ℕ} 68 0; at = refl })
+
+  module _ (room : ℕ) where
+    abbrev pub Handed : Stand → Type 0
+    Handed s =
+        let q = from payload s in
+        let t = taken (afterAll q values) room in HandsUpProven job (passed q values) (t .answer) (t .handed)
+
+    -- a write, and a job that was not begun
+    pub no-read : (s : Stand) → s .job .direction ≡ Write → Handed s
+    no-read s w =
+        let q = from payload s in
+        let p = afterAll q values in
+        hands-up job (passed q values) (p .stand) (p .fetched) room
+        (λ _ _ d. write-no-read (ap (λ (j : Job). j .direction) (job-stays values q) ∙ w) d)
+
+    pub begun : Fits job → Handed (atBeginning job)
+    begun fits =
+        let q = from payload (atBeginning job) in
+        let p = afterAll q values in
+        let r = reached fits in
+        hands-up job (passed q values) (p .stand) (p .fetched) room
+        (λ o a d. subst (λ (j : Job). ProvenRead j (passed q values) (take (p .stand .job .n) (p .fetched))) (job-stays values q)
+        (proven (p .stand .job) (passed q values) (p .fetched) (r .fits) (r .places) d
+        (subst (λ (x : Stage). At x (p .stand) (passed q values) (p .fetched)) o (r .at) a)))
+
+  module _ (count : ℕ) where
+    abbrev pub Done : Stand → Type 0
+    Done s = let q = from payload s in asking (afterAll q values) ≡ ask.Over 0 count → DoneSo job (passed q values)
+
+    pub done : Fits job → Done (atBeginning job)
+    unfolding asks
+    done fits e =
+        let q = from payload (atBeginning job) in
+        let p = afterAll q values in
+        let o = over-asked (p .stand .stage) (p .stand) (p .payload) 0 count e in
+        subst (λ (j : Job). DoneSo j (passed q values)) (job-stays values q)
+        (subst (λ (x : Stage). At x (p .stand) (passed q values) (p .fetched)) (o .0) (reached fits .at) (o .1) .done)

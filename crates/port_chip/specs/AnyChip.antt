@@ -1,4 +1,4 @@
--- Whatever the chip answers, by the rules or not: five claims about the port, in which the values that it hears are any list. The proofs are in
+-- Whatever the chip answers, by the rules or not: six claims about the port, in which the values that it hears are any list. The proofs are in
 -- proofs/AnyChip.antt.
 use mathlib.Core.Bool.{Bool, true, false}
 use mathlib.Core.List.{List, [], _∷_, _++_, map}
@@ -7,6 +7,7 @@ use Prim.Native.Nat.{ℕ, _≤_}
 use lib.Dec.{eqb}
 use lib.ListN.{length}
 use Rattle.address.specs.declared.number.Direction.the-variants as direction
+use Rattle.address.specs.declared.number.Direction.{Direction}
 use Rattle.notation.specs.Choice.{among}
 use Rattle.port.specs.Begin.{unsettled}
 use Rattle.port.specs.Look.{stoppedControl}
@@ -66,6 +67,32 @@ abbrev pub OnlyProven : Type 0
 OnlyProven = (p : Port) (job : Job) (bytes : List ℕ) (values : List ℕ) (room : ℕ) →
     let q = started p job bytes in
     let t = taken (afterAll q values) room in HandsUpProven job (passed q values) (t .answer) (t .handed)
+
+-- the status at which a job is done
+abbrev pub doneStatus : Direction → ℕ
+doneStatus direction.Write = 0x28
+doneStatus direction.Read = 0x58
+
+-- What it takes for a job to be done: that status was read, then 50h was written, then nothing but waits and looks passed, the last of which showed own
+-- STOP. What passed since the job began is so made up.
+pub record DoneSo (job : Job) (exchanges : List Exchange) : Type 0 where
+  pub before : List Exchange
+  -- the n reads of a read; none in a write
+  pub between : List Exchange
+  pub heard : ℕ
+  pub looks : List Exchange
+  pub control : ℕ
+  pub madeUp :
+      exchanges
+      ≡ before
+      ++ ((Read 0 gave doneStatus (job .direction)) ∷ (between ++ ((Write 3 0x50 gave heard) ∷ (looks ++ ((Read 3 gave control) ∷ [])))))
+  pub allLook : AllLook looks
+  pub stopped : stoppedControl control ≡ true
+
+-- a job begun in whatever state, read or write, whatever the chip then answers: it is over with 0 only so
+abbrev pub DoneOnlyAfter : Type 0
+DoneOnlyAfter = (p : Port) (job : Job) (bytes values : List ℕ) (count : ℕ) →
+    let q = started p job bytes in asking (afterAll q values) ≡ Over 0 count → DoneSo job (passed q values)
 
 -- What the state held before the start shows in nothing after it, but whether the chip has to be brought back: the whole state is the same.
 abbrev pub OldStateUnseen : Type 0
