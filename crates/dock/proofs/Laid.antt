@@ -3,8 +3,8 @@ use mathlib.Core.List.{List, [], _∷_, _++_}
 use mathlib.Core.Path.{_≡_, refl, sym, ap, _∙_}
 use Prim.Native.Nat.{ℕ, zero, suc, _+_, _≤_, _<_}
 use native.Mathlib.Omega.{arith}
-use lib.ListN.{length, take, drop, set, length-drop}
-use lib.Seq.{sets, sets-eq, length-take-le}
+use lib.ListN.{length, take, drop, set, getD, length-drop}
+use lib.Seq.{sets, sets-eq, set-getD, set-out, getD-set-other, length-take-le}
 use Rattle.notation.specs.Overlay.{laid, laidAt}
 
 nowhere : (k : ℕ) (xs : List ℕ) → laidAt k xs [] ≡ []
@@ -70,6 +70,29 @@ before-laid (suc k) j zero xs m e = absurd (omega (arith, e))
 before-laid (suc k) j (suc n) xs [] e = ap (λ (l : List ℕ). take j (drop (suc k) l)) (nowhere (suc n) xs)
 before-laid (suc k) j (suc n) xs (y ∷ m) e = before-laid k j n xs m (omega (arith, e))
 
+pub getD-before : (k i : ℕ) (xs m : List ℕ) → i < k → getD (laidAt k xs m) i 0 ≡ getD m i 0
+unfolding laidAt
+getD-before zero i xs m h = absurd (omega (arith, h))
+getD-before (suc k) i xs [] h = ap (λ (l : List ℕ). getD l i 0) (nowhere (suc k) xs)
+getD-before (suc k) zero xs (y ∷ m) h = refl
+getD-before (suc k) (suc i) xs (y ∷ m) h = getD-before k i xs m (omega (arith, h))
+
+-- those after the bytes laid are as they were
+pub after-laid : (k : ℕ) (xs m : List ℕ) → length xs ≤ k → drop k (laid xs m) ≡ drop k m
+unfolding laid
+after-laid k [] m h = refl
+after-laid zero (x ∷ xs) m h = absurd (omega (arith, h))
+after-laid (suc k) (x ∷ xs) [] h = refl
+after-laid (suc k) (x ∷ xs) (y ∷ m) h = after-laid k xs m (omega (arith, h))
+
+-- what was stored there before does not matter
+pub laid-over : (xs m : List ℕ) (i x : ℕ) → i < length xs → laid xs (set m i x) ≡ laid xs m
+unfolding laid
+laid-over [] m i x h = absurd (omega (arith, h))
+laid-over (z ∷ xs) [] i x h = refl
+laid-over (z ∷ xs) (y ∷ m) zero x h = refl
+laid-over (z ∷ xs) (y ∷ m) (suc i) x h = ap (λ (l : List ℕ). z ∷ l) (laid-over xs m i x (omega (arith, h)))
+
 -- one byte stored in a part
 pub set-in : (k j i n x : ℕ) (m : List ℕ) → n ≡ k + i → i < j → k + j ≤ length m → set m n x ≡ laidAt k (set (take j (drop k m)) i x) m
 unfolding laidAt laid
@@ -96,6 +119,29 @@ laid-sets xs m h =
     let none : 0 + length xs ≡ length xs = omega arith in
     over xs m h ∙ ap (λ (k : ℕ). xs ++ drop k m) (sym none) ∙ sym (sets-eq xs m 0 (omega (arith, h)))
 
+-- what stands there is stored
+there : (l : List ℕ) (i x : ℕ) → getD l i 0 ≡ x → set l i x ≡ l
+there l i x e = ap (set l i) (sym e) ∙ set-getD l i 0
+
+-- bytes 2, 3, and from 6 on are stored, and the others stand there
+pub laid-but : (a b d e f g : ℕ) (xs m : List ℕ) → getD m 0 0 ≡ a → getD m 1 0 ≡ b → getD m 4 0 ≡ f → getD m 5 0 ≡ g → 6 + length xs ≤ length m →
+    sets (set (set m 2 d) 3 e) 6 xs ≡ laid (a ∷ b ∷ d ∷ e ∷ f ∷ g ∷ xs) m
+laid-but a b d e f g xs m at0 at1 at4 at5 h =
+    let l = set (set m 2 d) 3 e in
+    let same : (i : ℕ) → 3 < i → getD l i 0 ≡ getD m i 0 =
+    λ i more. getD-set-other (set m 2 d) 3 i e 0 (λ is. omega (arith, is, more)) ∙ getD-set-other m 2 i d 0 (λ is. omega (arith, is, more)) in
+    sym (laid-sets (a ∷ b ∷ d ∷ e ∷ f ∷ g ∷ xs) m (omega (arith, h))
+    ∙ ap (λ (k : List ℕ). sets (set (set (set (set (set k 1 b) 2 d) 3 e) 4 f) 5 g) 6 xs) (there m 0 a at0)
+    ∙ ap (λ (k : List ℕ). sets (set (set (set (set k 2 d) 3 e) 4 f) 5 g) 6 xs) (there m 1 b at1)
+    ∙ ap (λ (k : List ℕ). sets (set k 5 g) 6 xs) (there l 4 f (same 4 (omega arith) ∙ at4))
+    ∙ ap (λ (k : List ℕ). sets k 6 xs) (there l 5 g (same 5 (omega arith) ∙ at5)))
+
 -- 68 places from one on
 pub part-length : (k : ℕ) (m : List ℕ) → k + 68 ≤ length m → length (take 68 (drop k m)) ≡ 68
 part-length k m h = let d = length-drop k m in length-take-le 68 (drop k m) (omega (arith, d, h))
+
+-- none stored in a part: it has no such place
+pub set-none : (k i x : ℕ) (m : List ℕ) → k + 68 ≤ length m → 68 ≤ i → laidAt k (set (take 68 (drop k m)) i x) m ≡ m
+set-none k i x m h past =
+    let l = part-length k m h in
+    ap (λ (xs : List ℕ). laidAt k xs m) (set-out (take 68 (drop k m)) i x (omega (arith, l, past))) ∙ laid-same k 68 m

@@ -2,4 +2,5 @@
 pub mod Padded
 pub mod Laid
 pub mod ReadBack
+pub mod Fixed
 pub mod Told

@@ -2,11 +2,15 @@
 // written.
 use crate::memory::put_padded;
 use crate::state::hear_in;
+use crate::state::is_marked;
 use crate::state::keep;
 use crate::state::load;
+use crate::state::load_marked;
 use crate::state::tell;
+use crate::state::tell_first;
 use address::number::Direction;
 use port::in_hand::least;
+use port::stand::Stand;
 use port::stand::no_job;
 use requests::jobs::job_for;
 use service::job::Job;
@@ -60,7 +64,7 @@ pub extern "C" fn perlovasta_start(
     let stand = load(state).start(job, bytes.len());
     put_padded(state, 80, bytes, 0);
     put_padded(state, 12, bytes, kept(job, bytes.len()));
-    tell(state, stand)
+    tell_first(state, stand)
 }
 
 // A recovery begins.
@@ -76,7 +80,7 @@ pub extern "C" fn perlovasta_recover(state: &mut [u8], settings: &[u8]) -> u32
     let stand = load(state).bring_back(settings);
     put_padded(state, 80, settings, 0);
     put_padded(state, 12, settings, settings.len());
-    tell(state, stand)
+    tell_first(state, stand)
 }
 
 // The next step, with the value that the last access read.
@@ -89,10 +93,13 @@ pub extern "C" fn perlovasta_next(state: &mut [u8], value: u8) -> u32
     if short {
         return 5381;
     }
-    let stand = load(state);
-    let next = hear_in(state, stand, value);
-    keep(state, stand.place(), value);
-    tell(state, next)
+    if is_marked(state) {
+        let stand = load_marked(state);
+        let next = hear_in(state, stand, value);
+        keep(state, stand.place(), value);
+        return tell(state, next);
+    }
+    tell_first(state, Stand::break_off(22, true))
 }
 
 // All is given up.
@@ -105,7 +112,7 @@ pub extern "C" fn perlovasta_give_up(state: &mut [u8]) -> u32
     if short {
         return 5381;
     }
-    tell(state, load(state).give_up())
+    tell_first(state, load(state).give_up())
 }
 
 // The bytes of a finished read go to the destination.

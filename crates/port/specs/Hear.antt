@@ -85,3 +85,10 @@ asksAt Pausing s payload = ask.Pause
 
 unfoldable pub asks : Stand → List ℕ → Ask
 asks s payload = asksAt (s .stage) s payload
+
+-- What is asked for first, after a start, a recovery or a give-up: then it is what `asks` says (proofs/Begun.antt). Plumbing.
+unfoldable pub firstAsk : Stand → Ask
+firstAsk s =
+    if eqb (stageNumber (s .stage)) 1 then ask.Read 3
+    else if eqb (stageNumber (s .stage)) 8 then ask.Write 0 0x05
+    else ask.Over (s .answer) (s .count)

@@ -11,7 +11,7 @@ ghost use lib.ListN.{take};
 ghost use Rattle.address.specs.Number.{byteOf};
 ghost use Rattle.answer.specs.declared.ending.Ending.the-variants.{DataNacked};
 ghost use Rattle.port.specs.Ask.{askFor};
-ghost use Rattle.port.specs.Hear.{asks};
+ghost use Rattle.port.specs.Hear.{firstAsk, asks};
 ghost use Rattle.port.specs.InHand.{readsFrom, accesses, alternates, recovers, line, nth};
 ghost use Rattle.service.specs.Act.{writes, readTimes};
 ghost use Rattle.service.specs.JobSteps.{begins, findsMoved, stopAfter};
@@ -79,18 +79,24 @@ impl Stand {
         Ask::Write(3, 0x50)
     }
 
-    // One of the accesses of the work at a status.
+    // One of the accesses of the work at a status. (58h and 18h have one for each byte, and come first for speed.)
     fn ask_work(self, payload: &[u8]) -> Ask
         ensures { λ r. ⌜ r ≡ askFor (nth (accesses (self .count) (line self (now (payload .entry)) .acts)) (self .made)) ⌝ }
     {
         let status = self.status;
+        let reading = status == 0x58;
+        if reading {
+            return self.ask_back();
+        }
+        let sending = status == 0x18;
+        if sending {
+            return self.ask_data(payload);
+        }
         match status {
             0x08 => self.ask_address(),
-            0x18 => self.ask_data(payload),
             0x40 => Ask::Write(3, 0x41),
             0x20 | 0x28 | 0x48 => Ask::Write(3, 0x50),
             0x30 => ask_moved(self.made),
-            0x58 => self.ask_back(),
             0x38 => Ask::Write(3, 0x40),
             _ => Ask::Wait,
         }
@@ -122,6 +128,23 @@ impl Stand {
             2 => Ask::Write(2, 0x5A),
             _ => self.ask_setting(payload, (made as usize) - 3),
         }
+    }
+
+    // What is asked for first, where something was just begun or broken off. (`ask` is left to the step: a function with one caller is compiled into it.)
+    pub fn ask_begun(self) -> Ask
+        ensures { λ r. ⌜ r ≡ firstAsk self ⌝ }
+    {
+        let stage = self.stage;
+        let number = stage.number();
+        let control = number == 1;
+        if control {
+            return Ask::Read(3);
+        }
+        let recovering = number == 8;
+        if recovering {
+            return Ask::Write(0, 0x05);
+        }
+        Ask::Over(self.answer, self.count)
     }
 
     // What is asked for at this stage.

@@ -70,10 +70,9 @@ impl Stand {
     {
         let total = self.work_total(payload);
         let more = (self.made as usize) + 1 < total;
-        let mut noted = self.note_count(payload, value);
+        let noted = self.with_count(self.note_count(value));
         if more {
-            noted.made += 1;
-            return noted;
+            return noted.advance();
         }
         noted.conclude()
     }

@@ -9,7 +9,7 @@ ghost use lib.ListN.{length};
 ghost use Rattle.notation.specs.Choice.{if_then_else_};
 ghost use Rattle.port.specs.Hear.{notedAt, concludes};
 ghost use Rattle.port.specs.InHand.{accesses, line, nth, countAfter};
-ghost use Rattle.port.specs.Stand.{atStage, advanced, withCount};
+ghost use Rattle.port.specs.Stand.{atStage, advanced};
 ghost use Rattle.service.specs.Act.{readTimes};
 ghost use Rattle.service.specs.JobTable.{jobTable};
 
@@ -30,17 +30,23 @@ pub(crate) fn times(n: u8) -> usize
 }
 
 impl Stand {
-    // How many accesses the work at a status has.
+    // How many accesses the work at a status has. (58h and 18h have one for each byte, and come first for speed.)
     pub(crate) fn work_total(self, payload: &[u8]) -> usize
         ensures { λ r. ⌜ r ≡ length (accesses (self .count) (line self (now (payload .entry)) .acts)) ⌝ }
     {
         let status = self.status;
+        let reading = status == 0x58;
+        if reading {
+            return times(self.job.n) + 1;
+        }
+        let sending = status == 0x18;
+        if sending {
+            return least(self.job.n, payload.len()) + 1;
+        }
         match status {
             0x08 => 2,
-            0x18 => least(self.job.n, payload.len()) + 1,
             0x20 | 0x28 | 0x38 | 0x40 | 0x48 => 1,
             0x30 => 4,
-            0x58 => times(self.job.n) + 1,
             _ => 0,
         }
     }
@@ -63,29 +69,27 @@ impl Stand {
     }
 
     // The count, where the access that was made reads one.
-    pub(crate) fn note_count(mut self, payload: &[u8], value: u8) -> Stand
-        ensures { λ r. ⌜ r ≡ withCount self (countAfter (nth (accesses (self .count) (line self (now (payload .entry)) .acts)) (self .made)) (self .count) value) ⌝ }
+    pub(crate) fn note_count(self, value: u8) -> u8
+        ensures { λ r. ⌜ ((payload : List ℕ) → r ≡ countAfter (nth (accesses (self .count) (line self payload .acts)) (self .made)) (self .count) value) ⌝ }
     {
         let moved = self.status == 0x30;
         if moved {
             let second = self.made == 1;
             if second {
-                self.count = value;
-                return self;
+                return value;
             }
         }
-        self
+        self.count
     }
 
     // The next of so many accesses, or after the last another stage.
-    pub(crate) fn onward(mut self, total: usize, stage: Stage) -> Stand
+    pub(crate) fn onward(self, total: usize, stage: Stage) -> Stand
         requires { ⌜ total ≤ 255 ⌝ }
         ensures { λ r. ⌜ r ≡ (if ltb (self .made + 1) total then advanced self else atStage self stage) ⌝ }
     {
         let more = (self.made as usize) + 1 < total;
         if more {
-            self.made += 1;
-            return self;
+            return self.advance();
         }
         self.at(stage)
     }

@@ -4,23 +4,26 @@ use address::number::Address;
 use address::number::Direction;
 use service::job::Job;
 ghost use mathlib.Core.Path.{_≡_};
-ghost use Rattle.port.specs.Stand.{atStage, atFirst, atWork, awaiting, ended, noJob, brokenOff};
+ghost use Prim.Native.Nat.{_<_};
+ghost use Rattle.port.specs.Stand.{atStage, withCount, advanced, atFirst, atWork, awaiting, ended, noJob, brokenOff};
 
+// The order is for speed: the job last, and no four fields in a row that one function sets to 0, or the compiler packs several fields into one register.
 pub struct Stand {
     // What was last asked for.
     pub stage: Stage,
-    pub job: Job,
     // The status that is worked on, or was last.
     pub status: u8,
-    // How many of the accesses in hand are made.
-    pub made: u8,
     // Own STOP is due, and will give the answer.
     pub due: bool,
-    // The answer, once it is over or own STOP comes, and the count that goes with it.
+    // The answer, once it is over or own STOP comes.
     pub answer: u8,
+    // How many of the accesses in hand are made.
+    pub made: u8,
+    // The count that goes with the answer.
     pub count: u8,
     // The chip has to be brought back before the next job.
     pub stale: bool,
+    pub job: Job,
 }
 
 impl Stand {
@@ -37,6 +40,43 @@ impl Stand {
             due: self.due,
             answer: self.answer,
             count: self.count,
+            stale: self.stale,
+        }
+    }
+
+    // One access more is made.
+    pub(crate) fn advance(self) -> Stand
+        requires { ⌜ self .made < 255 ⌝ }
+        ensures { λ r. ⌜ r ≡ advanced self ⌝ }
+    {
+        let stage = self.stage;
+        let job = self.job;
+        Stand {
+            stage,
+            job,
+            status: self.status,
+            made: self.made + 1,
+            due: self.due,
+            answer: self.answer,
+            count: self.count,
+            stale: self.stale,
+        }
+    }
+
+    // With this count noted.
+    pub(crate) fn with_count(self, count: u8) -> Stand
+        ensures { λ r. ⌜ r ≡ withCount self count ⌝ }
+    {
+        let stage = self.stage;
+        let job = self.job;
+        Stand {
+            stage,
+            job,
+            status: self.status,
+            made: self.made,
+            due: self.due,
+            answer: self.answer,
+            count,
             stale: self.stale,
         }
     }

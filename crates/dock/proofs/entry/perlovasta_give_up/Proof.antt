@@ -1,5 +1,6 @@
 -- `perlovasta_give_up` is `giveUpCall`: the head is put, and the rest stays.
-use mathlib.Core.Path.{_≡_, refl, sym, ap, _∙_}
+use mathlib.Core.Bool.{true}
+use mathlib.Core.Path.{refl, sym, ap, _∙_}
 use native.Mathlib.Omega.{arith}
 use borrow.Author.Needs.{needs}
 use borrow.Author.Tests.{ltb-false}
@@ -8,12 +9,13 @@ use denote.Ref.{now}
 use Rattle.dock.proofs.Laid.{laid-same, part-length}
 use Rattle.dock.proofs.Told.{not-done, told-kept}
 use Rattle.dock.specs.Calls.{tooShort, giveUpCall}
-use Rattle.dock.specs.StateBytes.{headBytes, standOf, portOf}
+use Rattle.dock.specs.StateBytes.{headBytes, portOf}
 use Rattle.notation.proofs.Cases.{if-true, if-false}
 use Rattle.notation.specs.Overlay.{laid}
+use Rattle.port.proofs.Begun.{broken-off}
 use Rattle.port.specs.Ask.{askNumber}
 use Rattle.port.specs.Begin.{giveUpOf}
-use Rattle.port.specs.Hear.{asks}
+use Rattle.port.specs.Hear.{firstAsk}
 use Rattle.port.specs.Port.{givenUp}
 use Rattle.port.specs.declared.stand.Stand.{Stand}
 use Rattle.dock.proofs.entry.perlovasta_give_up.Statement.{statement}
@@ -24,14 +26,15 @@ unfolding giveUpCall tooShort
 returns c = let m = now (c .before .before .args .state) in not-done (giveUpCall m) m (if-true _ _ _ (c .if1 .taken))
 
 returns-2 : tie.Need-returns-2
-unfolding giveUpCall tooShort givenUp portOf
+unfolding giveUpCall tooShort givenUp giveUpOf portOf
 returns-2 c =
     let m = now (c .before .before .before .before .before .before .before .before .before .args .state) in
     let long = ltb-false (length m) 148 (c .before .before .before .before .before .before .before .if1 .left) in
-    let tell = c .before .before .tell in
+    let tell = c .before .before .tell-first in
     let stand = c .before .before .before .give-up .ensures ∙ ap giveUpOf (c .before .before .before .before .load .ensures) in
     told-kept (giveUpCall m) (givenUp (portOf m)) m m _ _ (if-false _ _ _ (c .before .before .before .before .before .before .before .if1 .left))
-    (tell .ensures .0 ∙ ap (λ (s : Stand). askNumber (asks s (take 68 (drop 12 m)))) stand) (tell .ensures .1 ∙ ap (λ (s : Stand). laid (headBytes s) m) stand)
+    (tell .ensures .0 ∙ ap (λ (s : Stand). askNumber (firstAsk s)) stand ∙ ap askNumber (sym (broken-off (take 68 (drop 12 m)) 27 true)))
+    (tell .ensures .1 ∙ ap (λ (s : Stand). laid (headBytes s) m) stand)
     refl (part-length 12 m (omega (arith, long))) (sym (laid-same 80 68 m))
 
 pub perlovasta-give-up-spec : {M : Type 1} → statement M

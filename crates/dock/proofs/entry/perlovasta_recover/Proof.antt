@@ -1,23 +1,24 @@
 -- `perlovasta_recover` is `recoverCall`: zeros, the settings and the head are put.
 use mathlib.Core.List.{List}
-use mathlib.Core.Path.{_≡_, refl, sym, ap, _∙_}
-use Prim.Native.Nat.{ℕ, _≤_}
+use mathlib.Core.Path.{sym, ap, _∙_}
+use Prim.Native.Nat.{ℕ}
 use native.Mathlib.Omega.{arith}
 use borrow.Author.Needs.{needs}
 use borrow.Author.Tests.{ltb-false}
-use lib.ListN.{length, take, drop, replicate}
+use lib.ListN.{length, take, drop}
 use denote.Ref.{now}
 use lib.Seq.{take-length}
 use Rattle.dock.proofs.Laid.{laidAt-length}
 use Rattle.dock.proofs.Padded.{padded-length}
 use Rattle.dock.proofs.Told.{not-done, told-anew}
 use Rattle.dock.specs.Calls.{tooShort, recoverCall}
-use Rattle.dock.specs.StateBytes.{headBytes, portOf}
+use Rattle.dock.specs.StateBytes.{headBytes, standOf, portOf}
 use Rattle.notation.proofs.Cases.{if-true, if-false}
 use Rattle.notation.specs.Overlay.{laid, laidAt}
+use Rattle.port.proofs.Begun.{recovery-asks}
 use Rattle.port.specs.Ask.{askNumber}
 use Rattle.port.specs.Begin.{recoverOf}
-use Rattle.port.specs.Hear.{asks}
+use Rattle.port.specs.Hear.{firstAsk}
 use Rattle.port.specs.Port.{padded, recovering}
 use Rattle.port.specs.declared.stand.Stand.{Stand}
 use Rattle.dock.proofs.entry.perlovasta_recover.Statement.{statement}
@@ -31,13 +32,15 @@ returns c =
 
 put-padded-requires-2 : tie.Need-put-padded-requires-2
 put-padded-requires-2 c κs =
-    let long = ltb-false (length (now (c .before .before .before .before .before .before .before .before .before .before .before .args .state))) 148 (c .before .before .before .before .before .before .before .before .if1 .left) in
+    let at = c .before .before .before .before .before .before .before .before in
+    let long = ltb-false (length (now (at .before .before .before .args .state))) 148 (at .if1 .left) in
     let same = c .before .before .before .put-padded .kept .0 in
     (omega (arith, long, same), omega arith)
 
-tell-requires : tie.Need-tell-requires
-tell-requires c κs =
-    let long = ltb-false (length (now (c .before .before .before .before .before .before .before .before .before .before .before .before .before .before .before .args .state))) 148 (c .before .before .before .before .before .before .before .before .before .before .before .before .if1 .left) in
+tell-first-requires : tie.Need-tell-first-requires
+tell-first-requires c κs =
+    let at = c .before .before .before .before .before .before .before .before .before .before .before .before in
+    let long = ltb-false (length (now (at .before .before .before .args .state))) 148 (at .if1 .left) in
     let first = c .before .before .before .before .before .before .before .put-padded .kept .0 in
     let second = c .before .before .before .put-padded2 .kept .0 in
     omega (arith, long, first, second)
@@ -45,18 +48,21 @@ tell-requires c κs =
 returns-2 : tie.Need-returns-2
 unfolding recoverCall tooShort recovering portOf padded
 returns-2 c =
-    let a = c .before .before .before .before .before .before .before .before .before .before .before .before .before .before .before .before .before .before .args in
+    let tell = c .before .before .tell-first in
+    let put = c .before .before .before .before .before .before .put-padded2 in
+    let zeros = c .before .before .before .before .before .before .before .before .before .before .put-padded in
+    let begun = c .before .before .before .before .before .before .before .before .before .before .before .before in
+    let at = begun .before .before .before in
+    let a = at .before .before .before .args in
     let m = now (a .state) in
     let settings = now (a .settings) in
-    let long = ltb-false (length m) 148 (c .before .before .before .before .before .before .before .before .before .before .before .before .before .before .before .if1 .left) in
-    let tell = c .before .before .tell in
-    let zeros = c .before .before .before .before .before .before .before .before .before .before .put-padded in
-    let put = c .before .before .before .before .before .before .put-padded2 in
+    let long = ltb-false (length m) 148 (at .if1 .left) in
     let p = recovering (portOf m) settings in
-    let stand = c .before .before .before .before .before .before .before .before .before .before .before .before .bring-back .ensures ∙ ap (λ (s : Stand). recoverOf s settings) (c .before .before .before .before .before .before .before .before .before .before .before .before .before .load .ensures) in
+    let stand = begun .bring-back .ensures ∙ ap (λ (s : Stand). recoverOf s settings) (begun .before .load .ensures) in
+    let first = recovery-asks (take 68 (drop 12 (put .last .0))) (standOf m) settings in
     let size = laidAt-length 80 (p .fetched) m in
-    told-anew (recoverCall m settings) p m (put .last .0) _ _ (if-false _ _ _ (c .before .before .before .before .before .before .before .before .before .before .before .before .before .before .before .if1 .left))
-    (tell .ensures .0 ∙ ap (λ (s : Stand). askNumber (asks s (take 68 (drop 12 (put .last .0))))) stand)
+    told-anew (recoverCall m settings) p m (put .last .0) _ _ (if-false _ _ _ (at .if1 .left))
+    (tell .ensures .0 ∙ ap (λ (s : Stand). askNumber (firstAsk s)) stand ∙ ap askNumber (sym first))
     (tell .ensures .1 ∙ ap (λ (s : Stand). laid (headBytes s) (put .last .0)) stand)
     (padded-length settings) (omega (arith, size, long))
     (put .ensures ∙ ap (λ (xs : List ℕ). laidAt 12 (padded xs) (zeros .last .0)) (take-length settings)
@@ -71,6 +77,6 @@ perlovasta-recover-spec =
     (λ c κs. search needs)
     (λ c κs. search needs)
     put-padded-requires-2
-    tell-requires
+    tell-first-requires
     (λ c. search needs)
     returns-2)

@@ -1,14 +1,12 @@
 -- `note_count` notes what its promise says: the count is read by the second access at 30h, and by no other.
 use mathlib.Core.Bool.{false≢true}
-use mathlib.Core.Path.{_≡_, refl, sym, ap, _∙_}
+use mathlib.Core.Path.{_≡_, refl, sym, _∙_}
 use Prim.Native.Nat.{ℕ, zero, suc}
 use borrow.Author.Tests.{eqb-true, eqb-false}
-use denote.Ref.{now}
 use Rattle.answer.specs.declared.ending.Ending.the-variants.{DataNacked}
 use Rattle.notation.specs.Choice.{if_then_else_, among}
 use Rattle.port.proofs.Totals.{nth-all, line-all}
 use Rattle.port.specs.InHand.{accesses, nth, countAfter}
-use Rattle.port.specs.Stand.{withCount}
 use Rattle.service.specs.Act.{Act}
 use Rattle.service.specs.JobSteps.{findsMoved, stopAfter}
 use Rattle.service.specs.JobTable.{jobTable}
@@ -28,27 +26,26 @@ other (suc (suc (suc made))) count value h = refl
 
 returns : tie.Need-returns
 unfolding jobTable among if_then_else_ accesses nth countAfter
-returns c =
+returns c payload =
     let s = c .before .before .before .before .args in
     rw (eqb-true (s .self .status) 0x30 (c .before .before .if1 .taken), eqb-true (s .self .made) 1 (c .if2 .taken))
 
 returns-2 : tie.Need-returns-2
 unfolding jobTable among if_then_else_ accesses
-returns-2 c =
+returns-2 c payload =
     let s = c .before .before .before .before .args in
     let kept = other (s .self .made) (s .self .count) (s .value) (eqb-false (s .self .made) 1 (c .if2 .left)) in
     rw (eqb-true (s .self .status) 0x30 (c .before .before .if1 .taken), kept)
 
 returns-3 : tie.Need-returns-3
 unfolding countAfter
-returns-3 c =
+returns-3 c payload =
     let s = c .before .before .args in
-    let count = s .self .count in
-    let keeps = Keeps count (s .value) in
+    let keeps = Keeps (s .self .count) (s .value) in
     let all =
-    line-all keeps (s .self .job) (now (s .payload)) (s .self .status) count (λ _ _. refl)
+    line-all keeps (s .self .job) payload (s .self .status) (s .self .count) (λ _ _. refl)
     (λ at30. absurd (false≢true (sym (c .if1 .left) ∙ at30))) (λ _ _. refl) in
-    sym (ap (withCount (s .self)) (nth-all keeps _ (s .self .made) refl all))
+    sym (nth-all keeps _ (s .self .made) refl all)
 
 pub note-count-spec : {M : Type 1} → statement M
 note-count-spec = tie.close (tie.spec returns returns-2 returns-3)

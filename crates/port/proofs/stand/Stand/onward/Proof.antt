@@ -8,16 +8,16 @@ use Rattle.notation.proofs.Cases.{cases}
 use Rattle.port.proofs.stand.Stand.onward.Statement.{statement}
 use Rattle.port.proofs.stand.Stand.onward.Tie as tie
 
-add-self : tie.Need-add-self
-add-self c =
-    let at = c .before .before .before in
-    omega (arith, ltb-true (at .args .self .made + 1) (at .args .total) (c .before .if1 .taken), at .pre)
+advance-requires : tie.Need-advance-requires
+advance-requires c κs =
+    let at = c .before .before in
+    omega (arith, ltb-true (at .args .self .made + 1) (at .args .total) (c .if1 .taken), at .pre)
 
 returns : tie.Need-returns
-returns c = search cases
+returns c = c .advance .ensures ∙ search cases
 
 returns-2 : tie.Need-returns-2
 returns-2 c = c .at .ensures ∙ search cases
 
 pub onward-spec : {M : Type 1} → statement M
-onward-spec = tie.close (tie.spec (λ c. search needs) (λ c. search needs) add-self returns (λ c κs. search needs) returns-2)
+onward-spec = tie.close (tie.spec (λ c. search needs) (λ c. search needs) advance-requires returns (λ c κs. search needs) returns-2)

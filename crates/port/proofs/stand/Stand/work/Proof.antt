@@ -32,30 +32,34 @@ worked : (s : Stand) (payload : List ℕ) (value : ℕ) → s .stage ≡ Working
 unfolding hearsAt inHandAt
 worked s payload value e = rw e
 
-add-noted : tie.Need-add-noted
-add-noted c =
+advance-requires : tie.Need-advance-requires
+advance-requires c κs =
     let counted = c .before .before .before .before in
     let args = counted .before .before .args in
     let s = args .self in
     let fits = line-fits (s .job) (now (args .payload)) (s .status) (s .count) (counted .before .before .pre .0) in
-    omega (arith, ltb-true, ap (λ (t : Stand). t .made) (c .before .before .note-count .ensures), counted .work-total .ensures)
+    omega (arith, ltb-true, ap (λ (t : Stand). t .made) (c .before .with-count .ensures), counted .work-total .ensures)
 
 returns : tie.Need-returns
 returns c =
-    let counted = c .before .before .before .before in
+    let counted = c .before .before .before .before .before in
     let args = counted .before .before .args in
-    ap (λ (t : Stand). advanced t) (c .before .before .note-count .ensures)
-    ∙ sym (worked (args .self) (now (args .payload)) (args .value) (counted .before .before .pre .1)
+    let s = args .self in
+    let xs = now (args .payload) in
+    c .advance .ensures
+    ∙ ap (λ (t : Stand). advanced t) (c .before .before .with-count .ensures ∙ ap (withCount s) (c .before .before .before .note-count .ensures xs))
+    ∙ sym (worked s xs (args .value) (counted .before .before .pre .1)
     ∙ if-true _ _ _ (rw (counted .work-total .ensures) at (c .before .if1 .taken)))
 
 returns-2 : tie.Need-returns-2
 returns-2 c =
-    let counted = c .before .before .before .before in
+    let counted = c .before .before .before .before .before in
     let args = counted .before .before .args in
     let s = args .self in
     let xs = now (args .payload) in
     c .conclude .ensures xs (s .count)
-    ∙ ap (λ (t : Stand). concludes (jobTable (t .job) xs (t .status) (s .count) .after) t) (c .before .before .note-count .ensures)
+    ∙ ap (λ (t : Stand). concludes (jobTable (t .job) xs (t .status) (s .count) .after) t)
+    (c .before .before .with-count .ensures ∙ ap (withCount s) (c .before .before .before .note-count .ensures xs))
     ∙ sym (worked s xs (args .value) (counted .before .before .pre .1)
     ∙ if-false _ _ _ (rw (counted .work-total .ensures) at (c .before .if1 .left)))
 
@@ -67,7 +71,8 @@ work-spec =
     (λ c. search needs)
     (λ c. search needs)
     (λ c κs. search needs)
-    add-noted
+    (λ c κs. search needs)
+    advance-requires
     returns
     (λ c κs. search needs)
     returns-2)
