@@ -1,5 +1,5 @@
 -- A state's bytes lead back to the port that they were made of. Assumes nothing.
-use mathlib.Core.Bool.{Bool, true, false}
+use mathlib.Core.Bool.{Bool, true, false, not}
 use mathlib.Core.List.{List, [], _∷_, _++_, append-assoc}
 use mathlib.Core.Path.{_≡_, refl, sym, ap, subst, _∙_}
 use Prim.Native.Nat.{ℕ, _≤_}
@@ -50,10 +50,15 @@ unfolding bit if_then_else_
 bit-back true = refl
 bit-back false = refl
 
+bit-set : (b : Bool) → not (eqb (bit b) 0) ≡ b
+unfolding bit if_then_else_
+bit-set true = refl
+bit-set false = refl
+
 -- the head, with whatever follows it
 stand-back : (s : Stand) (rest : List ℕ) → standOf (headBytes s ++ rest) ≡ s
 unfolding standOf marked headBytes if_then_else_ _and_
-stand-back s rest = rw (stage-back (s .stage), direction-back (s .job .direction), bit-back (s .due), bit-back (s .stale)) refl
+stand-back s rest = rw (stage-back (s .stage), direction-back (s .job .direction), bit-back (s .due), bit-set (s .stale)) refl
 
 size : (p : Port) → length (p .payload) ≡ 68 → length (p .fetched) ≡ 68 → length (bytesOf p) ≡ 148
 unfolding bytesOf headBytes

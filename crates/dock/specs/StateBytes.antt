@@ -1,5 +1,5 @@
 -- The state in lent bytes: 148 of them.
-use mathlib.Core.Bool.{Bool}
+use mathlib.Core.Bool.{Bool, not}
 use mathlib.Core.List.{List, [], _∷_, _++_}
 use Prim.Native.Nat.{ℕ}
 use lib.Dec.{eqb}
@@ -35,12 +35,12 @@ bytesOf p = headBytes (p .stand) ++ (p .payload ++ p .fetched)
 unfoldable pub marked : List ℕ → Bool
 marked m = eqb (getD m 0 0) 0x50 and eqb (getD m 1 0) 0x76
 
--- where a job stands, by any bytes; without the mark the state is new
+-- where a job stands, by any bytes; without the mark the state is new. (Whatever is not 0 in the last of them says that the chip has to be brought back.)
 unfoldable pub standOf : List ℕ → Stand
 standOf m =
     if marked m
     then stand (stageFor (getD m 2 0)) (jobFor (getD m 3 0) (getD m 4 0) (getD m 5 0)) (getD m 6 0) (getD m 7 0) (eqb (getD m 8 0) 1) (getD m 9 0)
-    (getD m 10 0) (eqb (getD m 11 0) 1)
+    (getD m 10 0) (not (eqb (getD m 11 0) 0))
     else new
 
 unfoldable pub portOf : List ℕ → Port

@@ -41,7 +41,7 @@ pub(crate) fn load_marked(state: &[u8]) -> Stand
         due: state[8] == 1,
         answer: state[9],
         count: state[10],
-        stale: state[11] == 1,
+        stale: state[11] != 0,
     }
 }
 
