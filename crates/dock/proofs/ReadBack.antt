@@ -13,12 +13,12 @@ use Rattle.address.specs.declared.number.Direction.the-variants.{Write, Read}
 use Rattle.address.specs.declared.number.Direction.{Direction}
 use Rattle.dock.proofs.Laid.{over, laid-length, part-length}
 use Rattle.dock.specs.Calls.{StepCall, tooShort, telling, nextCall}
-use Rattle.dock.specs.ReadBack.{ReadBack, stateAfter, portAfter, CallsInTurn}
+use Rattle.dock.specs.ReadBack.{ReadBack, stateAfter, CallsInTurn}
 use Rattle.dock.specs.StateBytes.{bit, headBytes, bytesOf, marked, standOf, portOf}
 use Rattle.notation.proofs.Cases.{if-false}
 use Rattle.notation.specs.Choice.{if_then_else_, _and_}
 use Rattle.notation.specs.Overlay.{laid, laidAt}
-use Rattle.port.specs.Port.{Port, step}
+use Rattle.port.specs.Port.{Port, step, afterAll}
 use Rattle.port.specs.Stage.{stageNumber, stageFor}
 use Rattle.port.specs.Stand.{stand}
 use Rattle.port.specs.declared.stage.Stage.the-variants.{Over, Control, Status, First, Waiting, Look, Interrupted, Working, Recovering, Pausing}
@@ -96,8 +96,8 @@ one-call m value l =
     ∙ read-back (step p value) m (part-length 12 m (omega (arith, l))) fetched l
 
 pub calls-in-turn : CallsInTurn
-unfolding stateAfter portAfter
+unfolding stateAfter afterAll
 calls-in-turn m [] l = refl
 calls-in-turn m (value ∷ values) l =
     let n = laid-length (nextCall m value .state) m in
-    calls-in-turn (laid (nextCall m value .state) m) values (omega (arith, n, l)) ∙ ap (λ (p : Port). portAfter p values) (one-call m value l)
+    calls-in-turn (laid (nextCall m value .state) m) values (omega (arith, n, l)) ∙ ap (λ (p : Port). afterAll p values) (one-call m value l)

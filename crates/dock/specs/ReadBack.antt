@@ -7,7 +7,7 @@ use lib.ListN.{length}
 use Rattle.dock.specs.Calls.{nextCall}
 use Rattle.dock.specs.StateBytes.{bytesOf, portOf}
 use Rattle.notation.specs.Overlay.{laid}
-use Rattle.port.specs.Port.{Port, step}
+use Rattle.port.specs.Port.{Port, afterAll}
 
 -- any port, its data and bytes read back 68 places each, over whatever the state's bytes held
 abbrev pub ReadBack : Type 0
@@ -18,10 +18,5 @@ unfoldable pub stateAfter : List ℕ → List ℕ → List ℕ
 stateAfter m [] = m
 stateAfter m (value ∷ values) = stateAfter (laid (nextCall m value .state) m) values
 
--- the port after these values
-unfoldable pub portAfter : Port → List ℕ → Port
-portAfter p [] = p
-portAfter p (value ∷ values) = portAfter (step p value) values
-
 abbrev pub CallsInTurn : Type 0
-CallsInTurn = (m values : List ℕ) → 148 ≤ length m → portOf (stateAfter m values) ≡ portAfter (portOf m) values
+CallsInTurn = (m values : List ℕ) → 148 ≤ length m → portOf (stateAfter m values) ≡ afterAll (portOf m) values

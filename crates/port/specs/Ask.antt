@@ -1,4 +1,5 @@
 -- What the port asks of the board: one register access, a wait, a pause, or nothing any more.
+use mathlib.Core.Bool.{Bool, true, false}
 use Prim.Native.Nat.{ℕ, _+_, _*_}
 use Rattle.port.specs.declared.ask.Ask.the-variants.{Write, Read, Wait, Pause, Over}
 use Rattle.port.specs.declared.ask.Ask.{Ask}
@@ -19,3 +20,11 @@ askNumber (Read register) = 2 + 256 * register
 askNumber Wait = 3
 askNumber Pause = 4
 askNumber (Over answer count) = 5 + 256 * answer + 65536 * count
+
+-- no register access is asked for
+unfoldable pub noAccess : Ask → Bool
+noAccess (Write register value) = false
+noAccess (Read register) = false
+noAccess Wait = true
+noAccess Pause = true
+noAccess (Over answer count) = true

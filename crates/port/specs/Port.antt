@@ -1,5 +1,5 @@
 -- The port's whole state, and a step of it.
-use mathlib.Core.List.{List, [], _++_}
+use mathlib.Core.List.{List, [], _∷_, _++_}
 use Prim.Native.Nat.{ℕ}
 use lib.ListN.{length, take, set, replicate}
 use Rattle.address.specs.declared.number.Direction.the-variants.{Write, Read}
@@ -27,6 +27,11 @@ step p value = record {
 
 abbrev pub asking : Port → Ask
 asking p = asks (p .stand) (p .payload)
+
+-- the port once it has heard these values, one after the other
+unfoldable pub afterAll : Port → List ℕ → Port
+afterAll p [] = p
+afterAll p (value ∷ values) = afterAll (step p value) values
 
 -- 68 places that begin with these bytes, and zeros after them
 unfoldable pub padded : List ℕ → List ℕ

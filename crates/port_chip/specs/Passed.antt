@@ -3,6 +3,8 @@ use mathlib.Core.Bool.{Bool, true, false}
 use mathlib.Core.List.{List, [], _∷_}
 use Prim.Native.Nat.{ℕ}
 use Rattle.notation.specs.Choice.{if_then_else_, _or_}
+unfoldable pub use Rattle.port.specs.Ask.{noAccess}
+unfoldable pub use Rattle.port.specs.Port.{afterAll}
 use Rattle.port.specs.Port.{Port, step, asking}
 use Rattle.port.specs.declared.ask.Ask.the-variants.{Write, Read, Wait, Pause, Over}
 use Rattle.port.specs.declared.ask.Ask.{Ask}
@@ -14,19 +16,6 @@ isOver (Read register) = false
 isOver Wait = false
 isOver Pause = false
 isOver (Over answer count) = true
-
--- no register access is asked for
-unfoldable pub noAccess : Ask → Bool
-noAccess (Write register value) = false
-noAccess (Read register) = false
-noAccess Wait = true
-noAccess Pause = true
-noAccess (Over answer count) = true
-
--- the port once it has heard these values, one after the other
-unfoldable pub afterAll : Port → List ℕ → Port
-afterAll p [] = p
-afterAll p (value ∷ values) = afterAll (step p value) values
 
 -- an exchange: what was asked for, and the value heard
 pub record Exchange : Type 0 where

@@ -29,7 +29,7 @@ unfolding leaves
 job-holds asked payload script s b =
     let g = gives-job asked payload script s (b .still-sound) (b .places) (b .calm) in
     record {
-      readyOrBusy = λ u l. calm-looks (s .chip) (b .still-sound) (b .calm u) l .turn;
+      readyOrBusy = λ u l. calm-looks (s .chip) (b .still-sound) (b .calm u) l .ready-or-busy;
       same = g .same;
       again = ready-again s (played asked payload script s) (g .leaves);
     }

@@ -45,7 +45,7 @@ agree-recovered settings s sc b =
     }
 
 -- a script of whole pairs makes no job unfit
-whole-fits : (asked : Job) (given bytes : ℕ) → eqb (bytes % 2) 1 ≡ false → malformed asked given 68 69 bytes ≡ unfit asked given
+pub whole-fits : (asked : Job) (given bytes : ℕ) → eqb (bytes % 2) 1 ≡ false → malformed asked given 68 69 bytes ≡ unfit asked given
 unfolding malformed
 whole-fits asked given bytes e = rw e
 

@@ -19,4 +19,6 @@ pub mod Between
 pub mod ItIsTheJob
 pub mod JobsAlone
 pub mod Traffic
+pub mod AmidTraffic
+pub mod QuietBetween
 pub mod LooksFree

@@ -44,7 +44,7 @@ use Rattle.port_job.proofs.Ready.{not-true, Freed, Left, freed, hosted,
 use Rattle.port_job.proofs.Settles.{Reaches, there, rests}
 use Rattle.port_job.proofs.Works.{Worked, works}
 use Rattle.port_job.specs.OnModel.{At, noAccess, settled, woken}
-use Rattle.runs.proofs.FlagsHeld.{Held, awaitsStop, event-ensio, own-stopped, idle-held, work-held}
+use Rattle.runs.proofs.FlagsHeld.{Held, awaitsStop, event-ensio, own-stopped, idle-held, work-held, reset-disables}
 use Rattle.runs.proofs.Invariant.{jobTurns, Good}
 use Rattle.service.proofs.AnyTable.{at-reset, at-stop, at-idle, at-status}
 use Rattle.service.proofs.Formed.{Formed}
@@ -181,7 +181,7 @@ module _ {job : Job} {payload carried : List ℕ} {sent : ℕ} {p : Progress} (g
     unfolding follows taking noAccess asks asksAt resetWith kind among if_then_else_
     by-reset e =
         let is = reset-next (p .controller) number argument e accepted in
-        let no = ap (λ (c : Controller). c .control .ensio) is in
+        let no = ap (λ (c : Controller). c .control .ensio) is ∙ reset-disables (p .controller) in
         record {
           status = w .status;
           made = w .made;

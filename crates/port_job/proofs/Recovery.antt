@@ -1,4 +1,4 @@
--- The writes of a recovery bring any sound controller to Free, with ENSIO 1, STA 0 and STO 0. Assumes nothing.
+-- The writes of a recovery bring any sound controller to Free, with ENSIO 1, and AA, STA and STO 0. Assumes nothing.
 use mathlib.Core.Bool.{Bool, true, false, true≢false, false≢true}
 use mathlib.Core.List.{List, [], _∷_, _++_}
 use mathlib.Core.Path.{_≡_, refl, sym, ap, subst, _∙_}
@@ -87,13 +87,18 @@ pub record BroughtBack (c d : Controller) : Type 0 where
   pub still-sound : sound d ≡ true
   pub freed : Freed d
   pub same : d .buffer ≡ c .buffer
+  pub quiet : d .control .aa ≡ false
 
 -- 40h to I2CCON, last
-switched-on : (buffer : List ℕ) (d : Controller) → sound d ≡ true → IsOff buffer d → (Freed (put d 3 0x40)) × (put d 3 0x40 .buffer ≡ buffer)
+switched-on : (buffer : List ℕ) (d : Controller) → sound d ≡ true → IsOff buffer d →
+    (Freed (put d 3 0x40)) × (put d 3 0x40 .buffer ≡ buffer) × (put d 3 0x40 .control .aa ≡ false)
 unfolding response kind among if_then_else_ flagsOf badCount _and_ keeps statusOf
 switched-on buffer d s h =
-    let left = control-written d 0x40 Off Free s (h .turn) refl refl refl refl refl in
-    (subst Freed (sym left) (record { turn = refl; ensio = refl; sta = refl; sto = h .sto }), ap (λ (e : Controller). e .buffer) left ∙ h .same)
+    let left = control-written d 0x40 Off Free s (h .turn) refl refl refl refl refl in (
+      subst Freed (sym left) (record { turn = refl; ensio = refl; sta = refl; sto = h .sto }),
+      ap (λ (e : Controller). e .buffer) left ∙ h .same,
+      ap (λ (e : Controller). e .control .aa) left,
+    )
 
 -- I2CPRESET, register 2 with the pointer at 05h, is written in any turn
 preset-written : (c : Controller) (x : ℕ) → sound c ≡ true → c .pointer ≡ 5 → writeOf c 2 x ≡ writePreset c x
@@ -123,6 +128,7 @@ unfolding recovers doesAll does
 brought-back settings p s =
     let c = p .controller in
     settings-off (c .buffer) (λ q. BroughtBack c (q .controller)) (writes 3 0x40 ∷ [])
-    (λ q t h. let on = switched-on (c .buffer) (q .controller) t h in record { still-sound = put-sound (q .controller) 3 0x40 t; freed = on .0; same = on .1 })
+    (λ q t h. let on = switched-on (c .buffer) (q .controller) t h in
+    record { still-sound = put-sound (q .controller) 3 0x40 t; freed = on .0; same = on .1; quiet = on .2 })
     settings 0 2 (zero-off (c .buffer)) (two-off (c .buffer)) _ (put-sound _ 2 0x5A (put-sound _ 2 0xA5 (put-sound c 0 0x05 s)))
     (subst (IsOff (c .buffer)) (sym (resets c s)) (reset-off c))

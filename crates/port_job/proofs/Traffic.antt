@@ -182,10 +182,16 @@ module _ (c b : Controller) (waits : among (kind (c .turn)) waitingTurns ≡ tru
       (search (chosen, both-sound, refused, waited, stayed, not-this, not-here, no-38h, free-waits, busy-waits, listen-waits, tt) depth 40 fits 30000)
 
 -- a sound record in one of the three turns, with AA 0
-record Waiting (c : Controller) : Type 0 where
-  still-sound : sound c ≡ true
-  turn : among (kind (c .turn)) waitingTurns ≡ true
-  aa : c .control .aa ≡ false
+pub record Waiting (c : Controller) : Type 0 where
+  pub still-sound : sound c ≡ true
+  pub turn : among (kind (c .turn)) waitingTurns ≡ true
+  pub aa : c .control .aa ≡ false
+
+-- after the traffic it is one again, and nothing but the turn is changed
+pub record Amid (c d : Controller) : Type 0 where
+  pub waits : Waiting d
+  pub flags : d .control ≡ c .control
+  pub buffer : d .buffer ≡ c .buffer
 
 -- The first writes of a job that begins there.
 module _ (job : Job) where
@@ -216,7 +222,7 @@ module _ (job : Job) where
   record Passed (c : Controller) (number argument : ℕ) : Type 0 where
     accepted : eventOf (first c .controller) number argument .refused ≡ 0
     next : eventOf (first c .controller) number argument .next ≡ first (eventOf c number argument .next) .controller
-    waits : Waiting (eventOf c number argument .next)
+    after : Amid c (eventOf c number argument .next)
 
   passing : (c : Controller) (number argument : ℕ) → Waiting c → among number listed ≡ true → eventOf c number argument .refused ≡ 0 →
       Passed c number argument
@@ -234,8 +240,17 @@ module _ (job : Job) where
         next =
             subst (λ (d : Controller). eventOf d number argument .next ≡ first (eventOf c number argument .next) .controller) same
             (l .next′ ∙ sym (ap (λ (d : Controller). first d .controller) (l .next) ∙ turned c (l .turn) w led));
-        waits = subst Waiting (sym (l .next)) led;
+        after = subst (Amid c) (sym (l .next)) (record { waits = led; flags = refl; buffer = refl });
       }
+
+  pub amid : (traffic : List ℕ) (c : Controller) → Waiting c → OthersTraffic traffic c → Amid c (afterPairs traffic c)
+  unfolding afterPairs
+  amid [] c w t = record { waits = w; flags = refl; buffer = refl }
+  amid (number ∷ []) c w t = absurd t
+  amid (number ∷ argument ∷ rest) c w t =
+      let one = passing c number argument w (t .0) (t .1) .after in
+      let more = amid rest _ (one .waits) (t .2) in
+      record { waits = more .waits; flags = more .flags ∙ one .flags; buffer = more .buffer ∙ one .buffer }
 
   module _ (payload : List ℕ) where
     abbrev table : Table
@@ -249,9 +264,10 @@ module _ (job : Job) where
         let o = eventOf (first c .controller) number argument in
         let n = eventOf c number argument .next in
         let q = taking (first c) (first n .controller) in
-        let idle = ap statusOf (turn-stays n (e .waits)) ∙ status-idle (n .turn) (apart _ waitingTurns (host ∷ []) tt (e .waits .turn)) in
+        let w = e .after .waits in
+        let idle = ap statusOf (turn-stays n w) ∙ status-idle (n .turn) (apart _ waitingTurns (host ∷ []) tt (w .turn)) in
         let waits =
-        at-idle table number q (another 14 number which tt) (another 4 number which tt) (first-sound n (e .waits)) (ap (λ (x : ℕ). eqb x 0xF8) idle) in
+        at-idle table number q (another 14 number which tt) (another 4 number which tt) (first-sound n w) (ap (λ (x : ℕ). eqb x 0xF8) idle) in
         if-true _ _ _ (ap (λ (x : ℕ). eqb x 0) (e .accepted))
         ∙ ap (λ (u : Progress). sending number (o .value) (if u .over then closes u else run table u rest))
         (ap (λ (d : Controller). serve table number (taking (first c) d)) (e .next) ∙ waits)
@@ -264,9 +280,11 @@ module _ (job : Job) where
     traffic-from (number ∷ []) script c w t = absurd t
     traffic-from (number ∷ argument ∷ rest) script c w t =
         let e = passing c number argument w (t .0) (t .1) in
-        one-pair c number argument (rest ++ script) (t .0) e ∙ ap (later 1) (traffic-from rest script _ (e .waits) (t .2)) ∙ later-again (pairs rest) _
+        one-pair c number argument (rest ++ script) (t .0) e ∙ ap (later 1) (traffic-from rest script _ (e .after .waits) (t .2)) ∙ later-again (pairs rest) _
+
+pub ready-waiting : (c : Controller) → ready c ≡ true → c .control .aa ≡ false → Waiting c
+unfolding ready
+ready-waiting c r a = record { still-sound = and-left _ _ r; turn = ready-waits c r; aa = a }
 
 pub traffic-first : TrafficFirst
-unfolding ready
-traffic-first job payload traffic script c r a t =
-    traffic-from job payload traffic script c (record { still-sound = and-left _ _ r; turn = ready-waits c r; aa = a }) t
+traffic-first job payload traffic script c r a t = traffic-from job payload traffic script c (ready-waiting c r a) t

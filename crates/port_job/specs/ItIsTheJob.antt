@@ -1,11 +1,12 @@
 -- The port run against the model is the job, over any list of jobs and recoveries. The proofs are in proofs/ItIsTheJob.antt.
 use mathlib.Core.Bool.{true, false}
 use mathlib.Core.List.{List, [], _∷_}
+use mathlib.Core.Logic.{_⊎_}
 use mathlib.Core.Path.{_≡_}
 use Prim.Native.Nat.{ℕ, _%_}
 use lib.Dec.{eqb}
 use lib.ListN.{length}
-use Rattle.control.specs.Turn.{free, busy, listen, waits}
+use Rattle.control.specs.Turn.{busy, listen, waits}
 use Rattle.controller.specs.Record.{sound}
 use Rattle.driver.specs.Run.{jobOf}
 use Rattle.notation.specs.Choice.{among}
@@ -19,7 +20,8 @@ use Rattle.service.specs.declared.job.Job.{Job}
 
 -- Where the port begins a job, the model is ready or in Busy or Listen: never in the midst of an older job.
 abbrev pub ReadyOrBusy : At → Type 0
-ReadyOrBusy s = unsettled (s .port .stand) ≡ false → looksReady (s .chip) ≡ true → waits (s .chip .turn) (free ∷ busy ∷ listen ∷ []) ≡ true
+ReadyOrBusy s = unsettled (s .port .stand) ≡ false → looksReady (s .chip) ≡ true →
+    (ready (s .chip) ≡ true) ⊎ (waits (s .chip .turn) (busy ∷ listen ∷ []) ≡ true)
 
 -- after own STOP the port calls the chip ready, and so does the model
 pub record ReadyAgain (s : At) : Type 0 where

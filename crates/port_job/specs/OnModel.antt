@@ -9,6 +9,7 @@ use Rattle.controller.specs.Reply.{Outcome, accepts}
 use Rattle.controller.specs.declared.record.Controller.{Controller}
 use Rattle.driver.specs.Run.{Result, Report}
 use Rattle.notation.specs.Choice.{if_then_else_}
+unfoldable pub use Rattle.port.specs.Ask.{noAccess}
 use Rattle.port.specs.Port.{Port, step, asking, started, recovering, givenUp, taken}
 use Rattle.port.specs.declared.ask.Ask.the-variants.{Write, Read, Wait, Pause, Over}
 use Rattle.port.specs.declared.ask.Ask.{Ask}
@@ -33,14 +34,6 @@ answers (Over answer count) c = accepts c 0
 -- one exchange: the port hears what the model answered
 unfoldable pub exchange : At → At
 exchange s = let o = answers (asking (s .port)) (s .chip) in at (step (s .port) (o .value)) (o .next)
-
--- no register access is asked for
-unfoldable pub noAccess : Ask → Bool
-noAccess (Write register value) = false
-noAccess (Read register) = false
-noAccess Wait = true
-noAccess Pause = true
-noAccess (Over answer count) = true
 
 -- accesses are made until none is asked for. (There are at most 72 in a row: `Rests`, crates/port_chip.)
 unfoldable pub settlesIn : ℕ → At → At

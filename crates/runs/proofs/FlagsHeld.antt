@@ -24,6 +24,7 @@ use Rattle.controller.specs.I2ccon.{keeps, controlled, badCount, enabled, write
 use Rattle.controller.specs.Record.{sound}
 use Rattle.controller.specs.Registers.{wrote, writePointer, writeData}
 use Rattle.controller.specs.Reply.{Outcome, refuses, accepts}
+use Rattle.controller.specs.Reset.{resetWith}
 use Rattle.controller.specs.declared.record.Controller.{Controller}
 use Rattle.driver.specs.Run.{taking}
 use Rattle.laws.proofs.Soundness.{event-stays-sound}
@@ -41,7 +42,7 @@ use Rattle.runs.proofs.FlagsStay.{never, own-stop, event-stays}
 use Rattle.runs.proofs.Invariant.{In, waitingTurns, earlyTurns, Good}
 use Rattle.runs.proofs.Lines.{Line, job-lines}
 use Rattle.runs.specs.Accesses.{AllAccepted, jobStatuses}
-use Rattle.runs.specs.Flags.{HeldThroughout, FlagsHeld}
+use Rattle.runs.specs.Flags.{HeldThroughout, FlagsHeld, ResetDisables}
 pub use Rattle.runs.specs.Flags.{Held}
 use Rattle.service.proofs.Formed.{Formed, formed}
 use Rattle.service.specs.Act.{Act, writes, readsAll, counts, Then, goesOn, awaits, ends, finishes, Work, put, reads, does, doesAll, follows, performs}
@@ -249,3 +250,7 @@ flags-held job payload room places script c m r z l =
     let s = and-left _ _ r in
     let w = ready-waits c r in
     throughout payload (formed job (length payload) room places (length script) m) script (good-begun job payload c s w l) (held-begun job c s w z)
+
+pub reset-disables : ResetDisables
+unfolding resetWith
+reset-disables c = refl

@@ -7,6 +7,7 @@ use lib.Dec.{eqb}
 use lib.ListN.{length}
 use Rattle.control.specs.Turn.{free, busy, listen, stopping, waits}
 use Rattle.controller.specs.Event.{eventOf}
+use Rattle.controller.specs.Reset.{reset}
 use Rattle.controller.specs.declared.record.Controller.{Controller}
 use Rattle.driver.specs.Run.{taking}
 use Rattle.service.specs.JobSteps.{begins}
@@ -36,3 +37,7 @@ abbrev pub FlagsHeld : Type 0
 FlagsHeld = (job : Job) (payload : List ℕ) (destinationLength outLength : ℕ) (script : List ℕ) (c : Controller) →
     malformed job (length payload) destinationLength outLength (length script) ≡ false → ready c ≡ true → c .control .sto ≡ false →
     length (c .buffer) ≡ 68 → HeldThroughout (jobTable job payload) (starts (begins job) c) script
+
+-- after a reset ENSIO is 0 (`reset-disables`)
+abbrev pub ResetDisables : Type 0
+ResetDisables = (c : Controller) → reset c .control .ensio ≡ false
