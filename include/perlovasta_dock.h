@@ -37,7 +37,7 @@
  * It keeps nothing but the state, needs no heap, calls nothing outside itself, and
  * is built for x86-64 Linux here. A state of under 148 bytes is answered with 21
  * by every function, and nothing is written. Never more than 72 accesses come in a
- * row, in a job never more than 71.
+ * row.
  *
  * For every pointer: it is never NULL, also where its length is 0 (`none` above
  * is a pointer to any byte); the bytes it lends are as many as its length says;
@@ -133,7 +133,8 @@ extern "C" {
  *  26  bus fault: status 00h, 70h or 78h; perlovasta_recover
  *  27  given up; perlovasta_recover. (It may hide a 25: the chip left 38h
  *      between the look at I2CCON and that at I2CSTA)
- *  29  the chip was reset: ENSIO reads 0; perlovasta_recover
+ *  29  the chip was reset: ENSIO reads 0 after a wait, or I2CCON is not as it was
+ *      once the bytes of a read are read back; perlovasta_recover
  */
 PERLOVASTA_LOOK perlovasta_step
 perlovasta_start(uint8_t *state, size_t state_len, uint8_t kind, uint8_t address,

@@ -21,7 +21,7 @@ use Rattle.notation.specs.Overlay.{laid, laidAt}
 use Rattle.port.specs.Port.{Port, step, afterAll}
 use Rattle.port.specs.Stage.{stageNumber, stageFor}
 use Rattle.port.specs.Stand.{stand}
-use Rattle.port.specs.declared.stage.Stage.the-variants.{Over, Control, Status, First, Waiting, Look, Interrupted, Working, Recovering, Pausing}
+use Rattle.port.specs.declared.stage.Stage.the-variants.{Over, Control, Status, First, Waiting, Look, Interrupted, Working, Recovering, Pausing, Recheck}
 use Rattle.port.specs.declared.stage.Stage.{Stage}
 use Rattle.port.specs.declared.stand.Stand.{Stand}
 use Rattle.requests.specs.Jobs.{directionFor}
@@ -39,6 +39,7 @@ stage-back Interrupted = refl
 stage-back Working = refl
 stage-back Recovering = refl
 stage-back Pausing = refl
+stage-back Recheck = refl
 
 direction-back : (d : Direction) → directionFor (bitOf d) ≡ d
 unfolding directionFor bitOf if_then_else_

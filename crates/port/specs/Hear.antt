@@ -9,12 +9,12 @@ use Rattle.control.specs.Flags.{flagsOf}
 use Rattle.notation.specs.Choice.{if_then_else_, _and_, among}
 use Rattle.port.specs.Ask.{askFor}
 use Rattle.port.specs.InHand.{accesses, notes, line, inHand, access, placeOf, countAfter}
-use Rattle.port.specs.Look.{interruptIn, idleControl, meets}
+use Rattle.port.specs.Look.{interruptIn, idleControl, stillControl, meets}
 use Rattle.port.specs.Stage.{working, stageNumber}
 use Rattle.port.specs.Stand.{stand, atStage, withCount, advanced, atFirst, atWork, awaiting, ended}
 use Rattle.port.specs.declared.ask.Ask.the-variants as ask
 use Rattle.port.specs.declared.ask.Ask.{Ask}
-use Rattle.port.specs.declared.stage.Stage.the-variants.{Over, Control, Status, First, Waiting, Look, Interrupted, Working, Recovering, Pausing}
+use Rattle.port.specs.declared.stage.Stage.the-variants.{Over, Control, Status, First, Waiting, Look, Interrupted, Working, Recovering, Pausing, Recheck}
 use Rattle.port.specs.declared.stage.Stage.{Stage}
 use Rattle.port.specs.declared.stand.Stand.{Stand}
 use Rattle.service.specs.Act.{Then, goesOn, awaits, ends, finishes, Work}
@@ -37,6 +37,11 @@ enters s status work =
 unfoldable pub onward : Stand → List ℕ → Stand → Stand
 onward s payload after = if ltb (s .made + 1) (length (inHand s payload)) then advanced s else after
 
+-- The next access of a line. Where the bytes of a read are read back and 50h alone is left, I2CCON is looked at once more before it: a reset amid the reads
+-- would have given other bytes.
+unfoldable pub nextOf : Stand → ℕ → Stand
+nextOf s total = if eqb (s .status) 0x58 and eqb (s .made + 2) total then atStage (advanced s) Recheck else advanced s
+
 -- After a wait, by I2CCON: ENSIO 0 is a reset, 29; at SI 1 I2CSTA is asked for; SI 0 and STO 0 where own STOP is due is own STOP; else it waits on.
 unfoldable pub looked : Stand → ℕ → Stand
 looked s value =
@@ -58,10 +63,12 @@ hearsAt Interrupted s payload value =
     if among value (meets (s .job .direction)) then enters s value (jobTable (s .job) payload value (s .count)) else atStage s Waiting
 hearsAt Working s payload value =
     let t = withCount s (countAfter (access s payload) (s .count) value) in
-    if ltb (s .made + 1) (length (inHand s payload)) then advanced t else concludes (line s payload .after) t
+    if ltb (s .made + 1) (length (inHand s payload)) then nextOf t (length (inHand s payload)) else concludes (line s payload .after) t
 hearsAt Recovering s payload value = onward s payload (atStage s Pausing)
 -- the chip is brought back
 hearsAt Pausing s payload value = stand Over (s .job) (s .status) (s .made) false 0 0 false
+-- the bytes read back count only if nothing has happened to the chip meanwhile
+hearsAt Recheck s payload value = if stillControl value then atStage s Working else ended s 29 0
 
 unfoldable pub hears : Stand → List ℕ → ℕ → Stand
 hears s payload value = hearsAt (s .stage) s payload value
@@ -82,6 +89,7 @@ asksAt Interrupted s payload = ask.Read 0
 asksAt Working s payload = askFor (access s payload)
 asksAt Recovering s payload = askFor (access s payload)
 asksAt Pausing s payload = ask.Pause
+asksAt Recheck s payload = ask.Read 3
 
 unfoldable pub asks : Stand → List ℕ → Ask
 asks s payload = asksAt (s .stage) s payload

@@ -2,7 +2,7 @@
 use mathlib.Core.List.{List, [], _∷_, _++_}
 use Prim.Native.Nat.{ℕ, zero, suc, _+_}
 use lib.ListN.{take}
-use Rattle.port.specs.declared.stage.Stage.the-variants.{Over, Control, Status, First, Waiting, Look, Interrupted, Working, Recovering, Pausing}
+use Rattle.port.specs.declared.stage.Stage.the-variants.{Over, Control, Status, First, Waiting, Look, Interrupted, Working, Recovering, Pausing, Recheck}
 use Rattle.port.specs.declared.stage.Stage.{Stage}
 use Rattle.port.specs.declared.stand.Stand.{Stand}
 use Rattle.service.specs.Act.{Act, writes, readsData, readsAll, readsCount, counts, Work, readTimes}
@@ -58,6 +58,7 @@ inHandAt Interrupted s payload = []
 inHandAt Working s payload = accesses (s .count) (line s payload .acts)
 inHandAt Recovering s payload = recovers (take (s .job .n) payload)
 inHandAt Pausing s payload = []
+inHandAt Recheck s payload = []
 
 abbrev pub inHand : Stand → List ℕ → List Act
 inHand s payload = inHandAt (s .stage) s payload

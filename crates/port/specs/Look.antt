@@ -17,6 +17,10 @@ unfoldable pub idleControl : ℕ → Bool
 idleControl value =
     flagsOf value .ensio and not (flagsOf value .sta) and not (flagsOf value .sto) and not (interruptIn value)
 
+-- nothing has happened to the chip since SI was seen: ENSIO 1 and SI 1. (After a reset I2CCON reads 00h.)
+unfoldable pub stillControl : ℕ → Bool
+stillControl value = flagsOf value .ensio and interruptIn value
+
 -- own STOP: ENSIO 1, SI 0 and STO 0, where it is due
 unfoldable pub stoppedControl : ℕ → Bool
 stoppedControl value = flagsOf value .ensio and not (interruptIn value) and not (flagsOf value .sto)

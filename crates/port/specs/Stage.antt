@@ -2,7 +2,7 @@
 use Prim.Native.Nat.{ℕ}
 use lib.Dec.{eqb}
 use Rattle.notation.specs.Choice.{if_then_else_}
-use Rattle.port.specs.declared.stage.Stage.the-variants.{Over, Control, Status, First, Waiting, Look, Interrupted, Working, Recovering, Pausing}
+use Rattle.port.specs.declared.stage.Stage.the-variants.{Over, Control, Status, First, Waiting, Look, Interrupted, Working, Recovering, Pausing, Recheck}
 use Rattle.port.specs.declared.stage.Stage.{Stage}
 
 abbrev pub over : ℕ
@@ -22,6 +22,7 @@ stageNumber Interrupted = 6
 stageNumber Working = working
 stageNumber Recovering = 8
 stageNumber Pausing = 9
+stageNumber Recheck = 10
 
 unfoldable pub stageFor : ℕ → Stage
 stageFor k =
@@ -34,4 +35,5 @@ stageFor k =
     else if eqb k 7 then Working
     else if eqb k 8 then Recovering
     else if eqb k 9 then Pausing
+    else if eqb k 10 then Recheck
     else Over

@@ -163,6 +163,7 @@ impl Stand {
             Stage::Working => self.ask_work(payload),
             Stage::Recovering => self.ask_recovery(payload),
             Stage::Pausing => Ask::Pause,
+            Stage::Recheck => Ask::Read(3),
         }
     }
 }

@@ -3,16 +3,17 @@ use crate::in_hand::least;
 use crate::look::interrupts;
 use crate::look::is_idle;
 use crate::look::is_met;
+use crate::look::is_still;
 use crate::stage::Stage;
 use crate::stand::Stand;
 use control::flags::Control;
 ghost use mathlib.Core.Bool.{true, false};
 ghost use mathlib.Core.List.{List, []};
 ghost use mathlib.Core.Path.{_≡_};
-ghost use Prim.Native.Nat.{ℕ, _≤_};
+ghost use Prim.Native.Nat.{ℕ, _+_, _≤_, _<_};
 ghost use lib.ListN.{length};
 ghost use Rattle.notation.specs.Choice.{among};
-ghost use Rattle.port.specs.Hear.{enters, looked, hearsAt, hears};
+ghost use Rattle.port.specs.Hear.{enters, looked, nextOf, hearsAt, hears};
 ghost use Rattle.port.specs.Look.{meets};
 ghost use Rattle.service.specs.JobTable.{jobTable};
 
@@ -63,6 +64,33 @@ impl Stand {
         }
     }
 
+    // The next access of a line; where the bytes of a read are read back and 50h alone is left, I2CCON is looked at first.
+    fn next_of(self, total: usize) -> Stand
+        requires { ⌜ (self .made + 1 < total) × (total ≤ 255) ⌝ }
+        ensures { λ r. ⌜ r ≡ nextOf self total ⌝ }
+    {
+        let reading = self.status == 0x58;
+        if reading {
+            let last = (self.made as usize) + 2 == total;
+            if last {
+                return self.advance().at(Stage::Recheck);
+            }
+            return self.advance();
+        }
+        self.advance()
+    }
+
+    // I2CCON, after the bytes of a read were read back: they count only if nothing has happened to the chip meanwhile.
+    fn recheck(self, value: u8) -> Stand
+        ensures { λ r. ⌜ r ≡ hearsAt Stage.Recheck self [] value ⌝ }
+    {
+        if is_still(value) {
+            self.at(Stage::Working)
+        } else {
+            self.end(29, 0)
+        }
+    }
+
     // One of the accesses of the work at a status was made.
     fn work(self, payload: &[u8], value: u8) -> Stand
         requires { ⌜ (length (now payload) ≤ 68) × (self .stage ≡ Stage.Working) ⌝ }
@@ -72,7 +100,7 @@ impl Stand {
         let more = (self.made as usize) + 1 < total;
         let noted = self.with_count(self.note_count(value));
         if more {
-            return noted.advance();
+            return noted.next_of(total);
         }
         noted.conclude()
     }
@@ -116,6 +144,7 @@ impl Stand {
             Stage::Working => self.work(payload, value),
             Stage::Recovering => self.onward(least(self.job.n, payload.len()) + 4, Stage::Pausing),
             Stage::Pausing => self.recover(),
+            Stage::Recheck => self.recheck(value),
         }
     }
 }

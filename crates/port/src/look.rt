@@ -3,7 +3,7 @@ use address::number::Direction;
 use control::flags::Control;
 ghost use mathlib.Core.Path.{_≡_};
 ghost use Rattle.notation.specs.Choice.{among};
-ghost use Rattle.port.specs.Look.{interruptIn, idleControl, meets};
+ghost use Rattle.port.specs.Look.{interruptIn, idleControl, stillControl, meets};
 
 // SI.
 pub(crate) fn interrupts(value: u8) -> bool
@@ -27,6 +27,18 @@ pub(crate) fn is_idle(value: u8) -> bool
         return !interrupts(value);
     }
     false
+}
+
+// ENSIO 1 and SI 1.
+pub(crate) fn is_still(value: u8) -> bool
+    ensures { λ r. ⌜ r ≡ stillControl value ⌝ }
+{
+    let flags = Control::of_byte(value);
+    if flags.ensio {
+        interrupts(value)
+    } else {
+        false
+    }
 }
 
 // A status that a write can meet.

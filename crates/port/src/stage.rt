@@ -23,6 +23,8 @@ pub enum Stage {
     Recovering,
     // The pause that ends a recovery.
     Pausing,
+    // I2CCON, after the bytes of a read were read back.
+    Recheck,
 }
 
 impl Stage {
@@ -41,6 +43,7 @@ impl Stage {
             Stage::Working => 7,
             Stage::Recovering => 8,
             Stage::Pausing => 9,
+            Stage::Recheck => 10,
         }
     }
 
@@ -58,6 +61,7 @@ impl Stage {
             7 => Stage::Working,
             8 => Stage::Recovering,
             9 => Stage::Pausing,
+            10 => Stage::Recheck,
             _ => Stage::Over,
         }
     }

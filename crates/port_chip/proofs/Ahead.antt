@@ -2,17 +2,17 @@
 use mathlib.Core.Bool.{true, false, true≢false}
 use mathlib.Core.List.{List, [], _∷_}
 use mathlib.Core.Path.{_≡_, refl, sym, ap, subst}
-use Prim.Native.Nat.{ℕ, suc, _+_, _-_, _≤_, _<_, max}
+use Prim.Native.Nat.{ℕ, suc, _+_, _-_, _≤_, _<_, max, min}
 use native.Mathlib.Omega.{arith}
-use borrow.Author.Tests.{ltb-true}
-use lib.Dec.{ltb}
+use borrow.Author.Tests.{ltb-true, eqb-true}
+use lib.Dec.{eqb, ltb}
 use lib.ListN.{length}
-use Rattle.notation.proofs.Cases.{or-left, or-right, split}
-use Rattle.port.specs.Hear.{concludes, enters, onward, looked, hearsAt, hears, asksAt, asks}
-use Rattle.port.specs.InHand.{accesses, inHandAt, inHand}
+use Rattle.notation.proofs.Cases.{or-left, or-right, and-right, split}
+use Rattle.port.specs.Hear.{concludes, enters, onward, nextOf, looked, hearsAt, hears, asksAt, asks}
+use Rattle.port.specs.InHand.{accesses, inHandAt}
 use Rattle.port.specs.Port.{Port, step, asking}
-use Rattle.port.specs.Stand.{atStage}
-use Rattle.port.specs.declared.stage.Stage.the-variants.{Over, Control, Status, First, Waiting, Look, Interrupted, Working, Recovering, Pausing}
+use Rattle.port.specs.Stand.{atStage, withCount}
+use Rattle.port.specs.declared.stage.Stage.the-variants.{Over, Control, Status, First, Waiting, Look, Interrupted, Working, Recovering, Pausing, Recheck}
 use Rattle.port.specs.declared.stage.Stage.{Stage}
 use Rattle.port.specs.declared.stand.Stand.{Stand}
 use Rattle.port_chip.proofs.ByTest.{by-test}
@@ -26,21 +26,26 @@ use Rattle.service.specs.declared.job.Job.{Job}
 abbrev pub left : ℕ → ℕ → ℕ
 left total made = max 1 (total - made)
 
--- by the stage, how many accesses are in hand, and how many of them are made
-abbrev pub aheadAt : Stage → ℕ → ℕ → ℕ
-aheadAt Over total made = 0
-aheadAt Control total made = 5
-aheadAt Status total made = 4
-aheadAt First total made = left total made
-aheadAt Waiting total made = 0
-aheadAt Look total made = 71
-aheadAt Interrupted total made = 70
-aheadAt Working total made = left total made
-aheadAt Recovering total made = left total made
-aheadAt Pausing total made = 0
+-- the same of a line, with the look at I2CCON that may come before its last access
+unfoldable pub leftOfLine : ℕ → ℕ → ℕ
+leftOfLine total made = left total made + min 1 (total - (made + 1))
+
+-- by the stage: of the accesses in hand so many are left
+abbrev pub aheadAt : Stage → Stand → List ℕ → ℕ
+aheadAt Over s payload = 0
+aheadAt Control s payload = 5
+aheadAt Status s payload = 4
+aheadAt First s payload = left (length (inHandAt First s payload)) (s .made)
+aheadAt Waiting s payload = 0
+aheadAt Look s payload = 72
+aheadAt Interrupted s payload = 71
+aheadAt Working s payload = leftOfLine (length (inHandAt Working s payload)) (s .made)
+aheadAt Recovering s payload = left (length (inHandAt Recovering s payload)) (s .made)
+aheadAt Pausing s payload = 0
+aheadAt Recheck s payload = 1 + leftOfLine (length (inHandAt Working s payload)) (s .made)
 
 abbrev pub ahead : Stand → List ℕ → ℕ
-ahead s payload = aheadAt (s .stage) (length (inHand s payload)) (s .made)
+ahead s payload = aheadAt (s .stage) s payload
 
 -- one access more is made, and there are others
 one-less : (total made : ℕ) → ltb (made + 1) total ≡ true → left total (made + 1) < left total made
@@ -49,11 +54,39 @@ one-less total made e = omega (arith, ltb-true (made + 1) total e)
 one-left : (total made : ℕ) → 1 ≤ left total made
 one-left total made = omega arith
 
-none-at-most : {total : ℕ} → total ≡ 0 → total ≤ 69
-none-at-most e = omega (arith, e)
+-- the same of a line
+one-left-of-line : (total made : ℕ) → 1 ≤ leftOfLine total made
+unfolding leftOfLine
+one-left-of-line total made = omega arith
 
-all-left : (total : ℕ) → total ≤ 69 → left total 0 ≤ 69
-all-left total h = omega arith
+few-of-line : (total made : ℕ) → total ≤ 69 → leftOfLine total made ≤ 70
+unfolding leftOfLine
+few-of-line total made h = omega arith
+
+some-of-line : (total made : ℕ) → made < total → made + leftOfLine total made ≤ total + 1
+unfolding leftOfLine
+some-of-line total made h = omega arith
+
+last-of-line : (total made : ℕ) → made + 1 ≡ total → leftOfLine total made ≡ 1
+unfolding leftOfLine
+last-of-line total made e = omega (arith, e)
+
+more-of-line : (total made : ℕ) → made + 1 < total → made + leftOfLine total made ≡ total + 1
+unfolding leftOfLine
+more-of-line total made h = omega arith
+
+one-less-of-line : (total made : ℕ) → ltb (made + 1) total ≡ true → leftOfLine total (made + 1) < leftOfLine total made
+one-less-of-line total made e =
+    let h = ltb-true (made + 1) total e in omega (arith, more-of-line total made h, some-of-line total (made + 1) h)
+
+-- one access is left, and the look comes before it
+look-before : (total made : ℕ) → eqb (made + 2) total ≡ true → 1 + leftOfLine total (made + 1) < leftOfLine total made
+look-before total made e =
+    let q = eqb-true (made + 2) total e in
+    let h : made + 1 < total = omega (arith, q) in omega (arith, q, more-of-line total made h, last-of-line total (made + 1) (omega (arith, q)))
+
+none-at-most : {total : ℕ} → total ≡ 0 → total ≤ 70
+none-at-most e = omega (arith, e)
 
 none-left : {k m : ℕ} → k < m → m ≤ 0 → ⊥
 none-left h g = omega arith
@@ -81,11 +114,22 @@ module _ (payload : List ℕ) where
     Falls s t = ahead t payload < ahead s payload
 
     -- the work at a status
-    entered : (s : Stand) → ahead (enters s value (jobTable (s .job) payload value (s .count))) payload ≤ 69
+    entered : (s : Stand) → ahead (enters s value (jobTable (s .job) payload value (s .count))) payload ≤ 70
     unfolding enters inHandAt
     entered s =
-        let P : Stand → Type 0 = λ t. ahead t payload ≤ 69 in
-        split P _ _ _ (λ _. none-at-most (concluded _ _)) (λ _. all-left _ (settled (s .job) payload short value _ .few _))
+        let P : Stand → Type 0 = λ t. ahead t payload ≤ 70 in
+        split P _ _ _ (λ _. none-at-most (concluded _ _)) (λ _. few-of-line _ 0 (settled (s .job) payload short value _ .few _))
+
+    -- the next access of a line, whatever count is noted
+    next-falls : (s : Stand) (count : ℕ) → let total = length (inHandAt Working s payload) in
+        ltb (s .made + 1) total ≡ true → Falls (atStage s Working) (nextOf (withCount (atStage s Working) count) total)
+    unfolding nextOf inHandAt
+    next-falls s count e =
+        let total = length (inHandAt Working s payload) in
+        let same = same-number (s .job) (s .status) (s .count) count short in
+        split (Falls (atStage s Working)) _ _ _
+        (λ last. subst (λ (k : ℕ). 1 + leftOfLine k (s .made + 1) < leftOfLine total (s .made)) same (look-before total (s .made) (and-right _ _ last)))
+        (λ _. subst (λ (k : ℕ). leftOfLine k (s .made + 1) < leftOfLine total (s .made)) same (one-less-of-line total (s .made) e))
 
     falls : (x : Stage) (s : Stand) → noAccess (asks (atStage s x) payload) ≡ false → Falls (atStage s x) (hears (atStage s x) payload value)
     unfolding hears hearsAt asks asksAt noAccess onward looked enters inHandAt
@@ -101,12 +145,11 @@ module _ (payload : List ℕ) where
         let P = Falls (atStage s Interrupted) in
         split P _ _ _ (λ _. omega (arith, entered (atStage s Interrupted))) (λ _. omega arith)
     falls Working s a =
-        split (Falls (atStage s Working)) _ _ _
-        (λ e. subst (λ (k : ℕ). left k (s .made + 1) < ahead (atStage s Working) payload)
-        (same-number (s .job) (s .status) (s .count) _ short) (one-less _ (s .made) e))
-        (λ _. subst (λ (k : ℕ). k < ahead (atStage s Working) payload) (sym (concluded _ _)) (one-left _ (s .made)))
+        split (Falls (atStage s Working)) _ _ _ (next-falls s _)
+        (λ _. subst (λ (k : ℕ). k < ahead (atStage s Working) payload) (sym (concluded _ _)) (one-left-of-line _ (s .made)))
     falls Recovering s a = split (Falls (atStage s Recovering)) _ _ _ (one-less _ (s .made)) (λ _. one-left _ (s .made))
     falls Pausing s a = absurd (true≢false a)
+    falls Recheck s a = split (Falls (atStage s Recheck)) _ _ _ (λ _. omega arith) (λ _. omega arith)
 
   -- never more than 72, from whatever state
   pub at-most : length payload ≤ 68 → (x : Stage) (s : Stand) → ahead (atStage s x) payload ≤ 72
@@ -118,9 +161,10 @@ module _ (payload : List ℕ) where
   at-most short Waiting s = omega arith
   at-most short Look s = omega arith
   at-most short Interrupted s = omega arith
-  at-most short Working s = omega (arith, settled (s .job) payload short (s .status) (s .count) .few (s .count))
+  at-most short Working s = omega (arith, few-of-line _ (s .made) (settled (s .job) payload short (s .status) (s .count) .few (s .count)))
   at-most short Recovering s = omega (arith, recovery-few (s .job .n) payload short)
   at-most short Pausing s = omega arith
+  at-most short Recheck s = omega (arith, few-of-line _ (s .made) (settled (s .job) payload short (s .status) (s .count) .few (s .count)))
 
 -- an access is asked for, and then it is nearer to none
 nearer : (p : Port) (value : ℕ) → length (p .payload) ≤ 68 → noAccess (asking p) ≡ false →

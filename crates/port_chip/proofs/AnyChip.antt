@@ -48,7 +48,10 @@ at-start : (P : Stand → Type 0) (s : Stand) (job : Job) (dataLength : ℕ) →
     (Fits job → P (atBeginning job)) → P (startOf s job dataLength)
 unfolding startOf
 at-start P s job dataLength refused begins =
-    split P _ _ _ (λ _. refused 21 _ refl) (λ fit. split P _ _ _ (λ _. refused 22 true refl) (λ _. begins (formed job dataLength 68 69 0 fit .high)))
+    split P _ _ _ (λ _. refused 21 _ refl)
+    (λ fit.
+    let f = formed job dataLength 68 69 0 fit in
+    split P _ _ _ (λ _. refused 22 true refl) (λ _. begins (record { low = f .low; high = f .high })))
 
 pub only-proven : OnlyProven
 unfolding started

@@ -5,27 +5,27 @@ use mathlib.Core.Path.{_≡_, sym, ap, subst, _∙_}
 use Prim.Native.Nat.{ℕ, _+_, _<_}
 use native.Mathlib.Numerals.{add-one}
 use native.Mathlib.Omega.{arith}
-use borrow.Author.Tests.{ltb-true, ltb-false, eqb-true, eqb-false, not-true}
+use borrow.Author.Tests.{ltb-true, ltb-false, eqb-true, eqb-false, eq-eqb, not-true}
 use lib.Dec.{eqb, ltb}
 use lib.ListN.{length, take, set, length-set}
 use lib.Seq.{set-out, take-suc-set}
 use Rattle.answer.specs.Ending.{numberOf}
 use Rattle.answer.specs.declared.ending.Ending.the-variants.{Done}
-use Rattle.notation.proofs.Cases.{split}
+use Rattle.notation.proofs.Cases.{and-on, and-right, split}
 use Rattle.notation.specs.Choice.{if_then_else_}
 use Rattle.port.specs.Ask.{askFor}
-use Rattle.port.specs.Hear.{concludes, hearsAt, hears, notedAt, asksAt, asks}
+use Rattle.port.specs.Hear.{concludes, nextOf, hearsAt, hears, notedAt, asksAt, asks}
 use Rattle.port.specs.InHand.{inHandAt, nth, placeOf, countAfter}
 use Rattle.port.specs.Stage.{stageNumber}
 use Rattle.port.specs.Stand.{atStage, withCount, advanced, awaiting, ended}
 use Rattle.port.specs.declared.ask.Ask.the-variants.{Write, Read}
-use Rattle.port.specs.declared.stage.Stage.the-variants.{Waiting, Working}
+use Rattle.port.specs.declared.stage.Stage.the-variants.{Waiting, Working, Recheck}
 use Rattle.port.specs.declared.stand.Stand.{Stand}
 use Rattle.port_chip.proofs.ByTest.{by-test}
 use Rattle.port_chip.proofs.OfJob.{Fits, doneAt, At, OfJob}
-use Rattle.port_chip.proofs.DoneLine.{bytesOf, few-to-read, fetches, in-hand-when-done, after-done, length-fetches, fetch-made, fetch-last}
+use Rattle.port_chip.proofs.DoneLine.{bytesOf, few-to-read, done-at-58h, fetches, in-hand-when-done, after-done, length-fetches, fetch-made, fetch-last}
 use Rattle.port_chip.proofs.DoneLine.{fruitless, others-fruitless}
-use Rattle.port_chip.proofs.SinceStatus.{SinceStatus, and-then, one-byte}
+use Rattle.port_chip.proofs.SinceStatus.{SinceStatus, AllRead, one-byte, stop-asked}
 use Rattle.port_chip.specs.Passed.{Exchange, _gave_}
 use Rattle.service.specs.Act.{Act, Then, goesOn, awaits, ends, finishes}
 use Rattle.service.specs.JobTable.{jobTable}
@@ -59,7 +59,7 @@ Heard sofar fetched value s xs after =
     let a = nth xs (s .made) in
     let t = withCount (atStage s Working) (countAfter a (s .count) value) in
     OfJob (sofar ++ ((askFor a gave value) ∷ [])) (set fetched (placeOf a) value)
-    (if ltb (s .made + 1) (length xs) then advanced t else concludes after t)
+    (if ltb (s .made + 1) (length xs) then nextOf t (length xs) else concludes after t)
 
 module _ {sofar : List Exchange} {fetched : List ℕ} (value : ℕ) where
   -- one of the accesses at the status at which the job is done
@@ -67,18 +67,30 @@ module _ {sofar : List Exchange} {fetched : List ℕ} (value : ℕ) where
     abbrev Since : List Exchange → List ℕ → Type 0
     Since passed bytes = SinceStatus (doneAt (s .job)) passed bytes []
 
-    -- not the last: a byte is read
-    one-read : (count : ℕ) → s .made < bytesOf (s .job) →
-        OfJob (sofar ++ ((Read 1 gave value) ∷ [])) (set fetched (s .made) value) (advanced (withCount (atStage s Working) count))
-    one-read count more =
-        let within : s .made < length fetched = omega (arith, r .places, few-to-read (s .job .direction) (s .job .n) (r .fits)) in
+    -- not the last: a byte is read, and after the last byte I2CCON is looked at
+    one-read : (count total : ℕ) → total ≡ bytesOf (s .job) + 1 → s .made < bytesOf (s .job) →
+        OfJob (sofar ++ ((Read 1 gave value) ∷ [])) (set fetched (s .made) value) (nextOf (withCount (atStage s Working) count) total)
+    unfolding nextOf
+    one-read count total e more =
+        let n = bytesOf (s .job) in
+        let t = withCount (atStage s Working) count in
+        let within : s .made < length fetched = omega (arith, r .places, few-to-read (s .job .direction) (s .job .n) (r .fits .high)) in
         let bytes = ap (λ (k : ℕ). take k (set fetched (s .made) value)) (add-one (s .made)) ∙ take-suc-set fetched (s .made) value within in
-        holds (length-set fetched (s .made) value ∙ r .places) (advanced (withCount (atStage s Working) count)) (r .fits) (record {
+        let places = length-set fetched (s .made) value ∙ r .places in
+        let since : Since (sofar ++ ((Read 1 gave value) ∷ [])) (take (s .made + 1) (set fetched (s .made) value)) =
+        subst (λ (xs : List ℕ). Since (sofar ++ ((Read 1 gave value) ∷ [])) xs) (sym bytes) (one-byte (r .at .reading atDone .amid more) value) in
+        let at58 = eq-eqb (s .status) 0x58 (atDone ∙ done-at-58h (s .job .direction) (s .job .n) (s .made) more) in
+        split (OfJob (sofar ++ ((Read 1 gave value) ∷ [])) (set fetched (s .made) value)) _ _ _
+        (λ last.
+        let all : s .made + 1 ≡ n = omega (arith, e, eqb-true (s .made + 2) total (and-right _ _ last)) in
+        holds places (atStage (advanced t) Recheck) (r .fits) (record { off = r .at .off; listed = r .at .listed; reading = λ _. (all, since) }))
+        (λ amid.
+        let other = eqb-false (s .made + 2) total (sym (and-on _ _ at58) ∙ amid) in
+        holds places (advanced t) (r .fits) (record {
           off = r .at .off;
           listed = r .at .listed;
-          reading = λ e.
-              (omega arith, subst (λ (xs : List ℕ). Since (sofar ++ ((Read 1 gave value) ∷ [])) xs) (sym bytes) (one-byte (r .at .reading e .1) value));
-        })
+          reading = λ _. record { within = omega arith; amid = λ _. since; all = λ all. absurd (other (omega (arith, all, e))) };
+        }))
 
     -- the last: 50h is written
     stop-written : (count : ℕ) → s .made ≡ bytesOf (s .job) →
@@ -86,12 +98,8 @@ module _ {sofar : List Exchange} {fetched : List ℕ} (value : ℕ) where
     unfolding concludes
     stop-written count all =
         unnoted (r .places) value
-        (holds (r .places) (awaiting (withCount (atStage s Working) count) Waiting 0) (r .fits) (λ _ _. record {
-          heard = value;
-          looks = [];
-          since = and-then (subst (λ (k : ℕ). Since sofar (take k fetched)) all (r .at .reading atDone .1)) (Write 3 0x50 gave value);
-          allLook = tt;
-        }))
+        (holds (r .places) (awaiting (withCount (atStage s Working) count) Waiting 0) (r .fits)
+        (λ _ _. stop-asked (subst (λ (k : ℕ). AllRead (s .job .direction) sofar (take k fetched)) all (r .at .reading atDone .all all)) value))
 
     read-on : Heard sofar fetched value s (fetches (bytesOf (s .job))) (awaits Done)
     unfolding askFor placeOf
@@ -103,20 +111,25 @@ module _ {sofar : List Exchange} {fetched : List ℕ} (value : ℕ) where
         split (P (nth (fetches n) (s .made))) _ _ _
         (λ e.
         let more : s .made < n = omega (arith, total, ltb-true (s .made + 1) (length (fetches n)) e) in
-        subst (λ (a : Act). P a (advanced (t a))) (sym (fetch-made n (s .made) more)) (one-read _ more))
+        subst (λ (a : Act). P a (nextOf (t a) (length (fetches n)))) (sym (fetch-made n (s .made) more)) (one-read _ _ total more))
         (λ e.
-        let all : s .made ≡ n = omega (arith, total, r .at .reading atDone .0, ltb-false (s .made + 1) (length (fetches n)) e) in
+        let all : s .made ≡ n = omega (arith, total, r .at .reading atDone .within, ltb-false (s .made + 1) (length (fetches n)) e) in
         subst (λ (a : Act). P a (concludes (awaits Done) (t a))) (sym (ap (nth (fetches n)) all ∙ fetch-last n)) (stop-written _ all))
 
   -- one of the accesses at another status
   work-on : (s : Stand) → OfJob sofar fetched (atStage s Working) → eqb (s .status) (doneAt (s .job)) ≡ false → (xs : List Act) (after : Then) →
       fruitless after ≡ true → Heard sofar fetched value s xs after
+  unfolding nextOf
   work-on s r e xs after f =
       let a = nth xs (s .made) in
       let places = length-set fetched (placeOf a) value ∙ r .places in
-      split (OfJob (sofar ++ ((askFor a gave value) ∷ [])) (set fetched (placeOf a) value)) _ _ _
-      (λ _. holds places (advanced (withCount (atStage s Working) (countAfter a (s .count) value))) (r .fits)
-      (record { off = r .at .off; listed = r .at .listed; reading = λ q. absurd (eqb-false (s .status) (doneAt (s .job)) e q) }))
+      let t = withCount (atStage s Working) (countAfter a (s .count) value) in
+      let P = OfJob (sofar ++ ((askFor a gave value) ∷ [])) (set fetched (placeOf a) value) in
+      let no : s .status ≡ doneAt (s .job) → ⊥ = eqb-false (s .status) (doneAt (s .job)) e in
+      split P _ _ _
+      (λ _. split P _ _ _
+      (λ _. holds places (atStage (advanced t) Recheck) (r .fits) (record { off = r .at .off; listed = r .at .listed; reading = λ q. absurd (no q) }))
+      (λ _. holds places (advanced t) (r .fits) (record { off = r .at .off; listed = r .at .listed; reading = λ q. absurd (no q) })))
       (λ _. concluded places after _ f (r .fits) (r .at .off))
 
 module _ (sofar : List Exchange) (fetched : List ℕ) (payload : List ℕ) (value : ℕ) where
@@ -134,7 +147,7 @@ module _ (sofar : List Exchange) (fetched : List ℕ) (payload : List ℕ) (valu
       by-test (eqb (s .status) (doneAt (s .job)))
       (λ e.
       let atDone = eqb-true (s .status) (doneAt (s .job)) e in
-      subst (λ (xs : List Act). P xs (line .after)) (sym (in-hand-when-done (s .job) payload (s .status) (s .count) d atDone (r .fits)))
+      subst (λ (xs : List Act). P xs (line .after)) (sym (in-hand-when-done (s .job) payload (s .status) (s .count) d atDone (r .fits .high)))
       (subst (λ (a : Then). P (fetches (bytesOf (s .job))) a) (sym (after-done (s .job) payload (s .status) (s .count) d atDone))
       (read-on value s r atDone)))
       (λ e. work-on value s r e _ (line .after) (others-fruitless (s .job) payload (s .count) d (s .status) (r .at .listed) e))

@@ -35,6 +35,11 @@ pub few-to-read : (d : Direction) (n : ℕ) → n ≤ 68 → toRead d n ≤ 68
 few-to-read Write n h = omega arith
 few-to-read Read n h = h
 
+-- where there are bytes to read the job is a read, done at 58h
+pub done-at-58h : (d : Direction) (n made : ℕ) → made < toRead d n → doneStatus d ≡ 0x58
+done-at-58h Write n made h = absurd (omega arith)
+done-at-58h Read n made h = refl
+
 -- so many reads of I2CDAT and 50h
 abbrev pub fetches : ℕ → List Act
 fetches n = readsFrom n 0 ++ (writes 3 0x50 ∷ [])

@@ -1,29 +1,31 @@
 -- Every step of a job keeps what holds between it and what passed since it began. Assumes nothing.
 use mathlib.Core.Bool.{Bool, true, false, not}
-use mathlib.Core.List.{List, [], _∷_, _++_}
+use mathlib.Core.List.{List, [], _∷_, _++_, append-assoc}
 use mathlib.Core.Path.{_≡_, refl, sym, ap, subst, _∙_}
-use Prim.Native.Nat.{ℕ, _+_}
+use Prim.Native.Nat.{ℕ, _+_, _≤_}
 use native.Mathlib.Omega.{arith}
 use borrow.Author.Tests.{eqb-true, not-false}
 use lib.Dec.{eqb, ltb}
 use lib.ListN.{length, take, set}
+use Rattle.address.specs.declared.number.Direction.the-variants as direction
+use Rattle.address.specs.declared.number.Direction.{Direction}
 use Rattle.notation.proofs.Cases.{and-true, and-left, and-right, split}
 use Rattle.notation.specs.Choice.{if_then_else_, among}
 use Rattle.port.specs.Ask.{askFor}
 use Rattle.port.specs.Hear.{enters, onward, looked, hearsAt, hears, notedAt, asksAt, asks}
 use Rattle.port.specs.InHand.{inHand, notes}
-use Rattle.port.specs.Look.{idleControl, stoppedControl, meets}
+use Rattle.port.specs.Look.{idleControl, stillControl, stoppedControl, meets}
 use Rattle.port.specs.Stage.{stageNumber}
 use Rattle.port.specs.Stand.{atStage, advanced, atFirst, atWork, ended}
 use Rattle.port.specs.declared.ask.Ask.the-variants.{Read, Wait}
-use Rattle.port.specs.declared.stage.Stage.the-variants.{Over, Control, Status, First, Waiting, Look, Interrupted, Working, Recovering, Pausing}
+use Rattle.port.specs.declared.stage.Stage.the-variants.{Over, Control, Status, First, Waiting, Look, Interrupted, Working, Recovering, Pausing, Recheck}
 use Rattle.port.specs.declared.stage.Stage.{Stage}
 use Rattle.port.specs.declared.stand.Stand.{Stand}
 use Rattle.port_chip.proofs.AtWork.{off-and-on, holds, unnoted, over-otherwise, concluded, Hears, at-work}
 use Rattle.port_chip.proofs.ByTest.{by-test}
-use Rattle.port_chip.proofs.OfJob.{Fits, doneAt, Between, OfJob}
-use Rattle.port_chip.proofs.DoneLine.{bytesOf, fetches, in-hand-when-done, length-fetches, others-fruitless}
-use Rattle.port_chip.proofs.SinceStatus.{and-then, look-more}
+use Rattle.port_chip.proofs.OfJob.{Fits, doneAt, AtWork, AtRecheck, Between, OfJob}
+use Rattle.port_chip.proofs.DoneLine.{toRead, bytesOf, fetches, in-hand-when-done, length-fetches, others-fruitless}
+use Rattle.port_chip.proofs.SinceStatus.{SinceStatus, Checked, checked-so, and-then, look-more}
 use Rattle.port_chip.specs.AnyChip.{isLook, readsOf}
 use Rattle.port_chip.specs.Passed.{Exchange, _gave_, isOver}
 use Rattle.service.specs.Act.{Act, writes, readsData, readsAll, readsCount, counts}
@@ -46,6 +48,11 @@ access-asked (counts count) = refl
 some : (n : ℕ) → length (fetches n) ≡ 0 → ⊥
 some n e = omega (arith, length-fetches n, e)
 
+-- no byte is to be read: a write, with no look before its 50h
+none-read : (d : Direction) (n : ℕ) → 1 ≤ n → 0 ≡ toRead d n → Checked d []
+none-read direction.Write n h e = tt
+none-read direction.Read n h e = absurd (omega (arith, e))
+
 chosen : {sofar : List Exchange} {fetched : List ℕ} (b : Bool) {x y : Stand} → OfJob sofar fetched x → OfJob sofar fetched y →
     OfJob sofar fetched (if b then x else y)
 chosen {sofar} {fetched} b {x} {y} f g = split (OfJob sofar fetched) b x y (λ _. f) (λ _. g)
@@ -61,13 +68,20 @@ module _ (sofar : List Exchange) (fetched : List ℕ) (payload : List ℕ) (valu
       split (OfJob (sofar ++ ((Read 0 gave value) ∷ [])) fetched) _ _ _
       (λ none. by-test (eqb value (doneAt (s .job)))
       (λ q.
-      let inHand = in-hand-when-done (s .job) payload value (s .count) d (eqb-true value (doneAt (s .job)) q) r in
+      let inHand = in-hand-when-done (s .job) payload value (s .count) d (eqb-true value (doneAt (s .job)) q) (r .high) in
       absurd (some (bytesOf (s .job)) (sym (ap length inHand) ∙ eqb-true _ 0 none)))
       (λ q. concluded places (work .after) _ (others-fruitless (s .job) payload (s .count) d value e q) r refl))
       (λ _. holds places (atWork s Working value (notes (s .count) (work .acts))) r (record {
         off = refl;
         listed = e;
-        reading = λ q. (omega arith, record { before = sofar; madeUp = ap (λ (k : ℕ). sofar ++ ((Read 0 gave k) ∷ [])) q });
+        reading = λ q.
+            let since : SinceStatus (doneAt (s .job)) (sofar ++ ((Read 0 gave value) ∷ [])) [] [] =
+            record { before = sofar; madeUp = ap (λ (k : ℕ). sofar ++ ((Read 0 gave k) ∷ [])) q } in
+            record {
+              within = omega arith;
+              amid = λ _. since;
+              all = λ none. record { look = []; checked = none-read d (s .job .n) (r .low) none; since = since };
+            };
       }))
 
   -- after a wait, by I2CCON
@@ -86,17 +100,38 @@ module _ (sofar : List Exchange) (fetched : List ℕ) (payload : List ℕ) (valu
       record {
         done = record {
           before = since .before;
-          between = readsOf (take (bytesOf (s .job)) fetched);
+          between = readsOf (take (bytesOf (s .job)) fetched) ++ asked .look;
           heard = asked .heard;
           looks = asked .looks;
           control = value;
-          madeUp = since .madeUp;
+          madeUp = since .madeUp ∙ simp append-assoc;
           allLook = asked .allLook;
           stopped = and-true _ _ (not-false _ ensio) (and-true _ _ (ap not quiet) (and-right _ _ e));
         };
+        look = asked .look;
+        checked = asked .checked;
         fetched = refl;
       }))
       (λ _. holds places (atStage s Waiting) r more)))
+
+  -- before 50h, by I2CCON: nothing has happened to the chip
+  looked-still : (s : Stand) → AtRecheck (atStage s Recheck) sofar fetched → stillControl value ≡ true →
+      AtWork (atStage s Working) (sofar ++ ((Read 3 gave value) ∷ [])) fetched
+  looked-still s a still = record {
+    off = a .off;
+    listed = a .listed;
+    reading = λ q.
+        let read = a .reading q in
+        record {
+          within = omega (arith, read .0);
+          amid = λ h. absurd (omega (arith, read .0));
+          all = λ _. record {
+            look = (Read 3 gave value) ∷ [];
+            checked = checked-so (s .job .direction) value still;
+            since = and-then (read .1) (Read 3 gave value);
+          };
+        };
+  }
 
   -- either it is over and stays as it is, or the exchange is one more that passed
   pub data Stepped (s : Stand) : Type 0 where
@@ -133,3 +168,8 @@ module _ (sofar : List Exchange) (fetched : List ℕ) (payload : List ℕ) (valu
   stepped Working s r = goes (access-asked _) (at-work sofar fetched payload value s r)
   stepped Recovering s r = absurd (r .at)
   stepped Pausing s r = absurd (r .at)
+  stepped Recheck s r =
+      notes-nothing (r .places) refl refl
+      (split (OfJob _ fetched) (stillControl value) _ _
+      (λ still. holds (r .places) (atStage s Working) (r .fits) (looked-still s (r .at) still))
+      (λ _. over-otherwise (r .places) s 29 0 refl (r .fits)))

@@ -1,6 +1,6 @@
 -- Bytes are handed up of a proven read alone, and a job is done only after own STOP. Assumes nothing.
 use mathlib.Core.Bool.{true, false, true≢false, false≢true}
-use mathlib.Core.List.{List, [], _∷_, _++_, append-nil}
+use mathlib.Core.List.{List, [], _∷_, _++_, append-assoc, append-nil}
 use mathlib.Core.Path.{_≡_, refl, sym, ap, subst, _∙_}
 use Prim.Native.Nat.{ℕ}
 use native.Mathlib.Omega.{arith}
@@ -19,13 +19,14 @@ use Rattle.port.specs.Stage.{over, stageNumber}
 use Rattle.port.specs.Stand.{stand}
 use Rattle.port.specs.declared.ask.Ask.the-variants as ask
 use Rattle.port.specs.declared.ask.Ask.{Ask}
-use Rattle.port.specs.declared.stage.Stage.the-variants.{Over, Control, Status, First, Waiting, Look, Interrupted, Working, Recovering, Pausing}
+use Rattle.port.specs.declared.stage.Stage.the-variants.{Over, Control, Status, First, Waiting, Look, Interrupted, Working, Recovering, Pausing, Recheck}
 use Rattle.port.specs.declared.stage.Stage.{Stage}
 use Rattle.port.specs.declared.stand.Stand.{Stand}
 use Rattle.port_chip.proofs.JobStays.{job-stays}
 use Rattle.port_chip.proofs.Kept.{access-asked, Stepped, stays, goes, stepped}
 use Rattle.port_chip.proofs.OfJob.{Fits, DoneWith, At, OfJob}
 use Rattle.port_chip.proofs.DoneLine.{toRead, bytesOf}
+use Rattle.port_chip.proofs.SinceStatus.{Checked}
 use Rattle.port_chip.specs.AnyChip.{readsOf, ProvenRead, HandsUpProven, doneStatus, DoneSo}
 use Rattle.port_chip.specs.Passed.{Exchange, _gave_, isOver, afterAll, passed}
 use Rattle.service.specs.declared.job.Job.{Job}
@@ -75,6 +76,7 @@ is-over Interrupted e = absurd (false≢true e)
 is-over Working e = absurd (false≢true e)
 is-over Recovering e = absurd (false≢true e)
 is-over Pausing e = absurd (false≢true e)
+is-over Recheck e = absurd (false≢true e)
 
 is-read : (d : Direction) → eqb (bitOf d) 1 ≡ true → d ≡ Read
 unfolding bitOf
@@ -112,16 +114,26 @@ proven job exchanges fetched fits places isRead w =
     let made : Direction → List Exchange → List Exchange = λ d between.
     done .before
     ++ ((ask.Read 0 gave doneStatus d) ∷ (between ++ ((ask.Write 3 0x50 gave done .heard) ∷ (done .looks ++ ((ask.Read 3 gave done .control) ∷ []))))) in
-    let bytes = w .fetched ∙ ap (λ (d : Direction). readsOf (take (toRead d (job .n)) fetched)) isRead in
+    let seen = subst (λ (d : Direction). Checked d (w .look)) isRead (w .checked) in
+    let bytes =
+    w .fetched
+    ∙ ap (λ (d : Direction). readsOf (take (toRead d (job .n)) fetched) ++ w .look) isRead
+    ∙ ap (λ (xs : List Exchange). readsOf (take (job .n) fetched) ++ xs) (seen .one) in
     record {
       before = done .before;
+      rechecked = seen .rechecked;
       heard = done .heard;
       looks = done .looks;
       control = done .control;
-      madeUp = done .madeUp ∙ ap (λ (d : Direction). made d (done .between)) isRead ∙ ap (made Read) bytes;
+      madeUp =
+          done .madeUp
+          ∙ ap (λ (d : Direction). made d (done .between)) isRead
+          ∙ ap (made Read) bytes
+          ∙ ap (λ (xs : List Exchange). done .before ++ ((ask.Read 0 gave 0x58) ∷ xs)) (append-assoc (readsOf (take (job .n) fetched)) _ _);
+      still = seen .still;
       allLook = done .allLook;
       stopped = done .stopped;
-      number = length-take-le (job .n) fetched (omega (arith, places, fits));
+      number = length-take-le (job .n) fetched (omega (arith, places, fits .high));
       isRead = isRead;
     }
 
@@ -142,6 +154,7 @@ over-asked Interrupted s payload answer count e = not-yet refl e
 over-asked Working s payload answer count e = not-yet (access-asked _) e
 over-asked Recovering s payload answer count e = not-yet (access-asked _) e
 over-asked Pausing s payload answer count e = not-yet refl e
+over-asked Recheck s payload answer count e = not-yet refl e
 
 abbrev pub from : List ℕ → Stand → Port
 from payload s = record { stand = s; payload = payload; fetched = replicate 68 0 }

@@ -10,7 +10,7 @@ use Rattle.address.specs.declared.number.Direction.the-variants as direction
 use Rattle.address.specs.declared.number.Direction.{Direction}
 use Rattle.notation.specs.Choice.{among}
 use Rattle.port.specs.Begin.{unsettled}
-use Rattle.port.specs.Look.{stoppedControl}
+use Rattle.port.specs.Look.{stillControl, stoppedControl}
 use Rattle.port.specs.Port.{Port, step, asking, started, givenUp, taken}
 use Rattle.port.specs.Stand.{atStage}
 use Rattle.port.specs.declared.ask.Ask.the-variants.{Write, Read, Wait, Pause, Over}
@@ -19,8 +19,8 @@ use Rattle.port.specs.declared.stage.Stage.the-variants.{Waiting, Interrupted}
 use Rattle.port_chip.specs.Passed.{Exchange, _gave_, afterAll, passed, rests}
 use Rattle.service.specs.declared.job.Job.{Job}
 
--- Between two waits there are at most so many accesses: never 73 in a row, from whatever state. (In a job 71: two looks, 68 bytes and one write of
--- I2CCON; in a recovery 16. The 72nd is one that only a state which no call has made asks for.)
+-- Between two waits there are at most so many accesses: never 73 in a row, from whatever state. (In a job 72: three looks, 68 bytes and one write of
+-- I2CCON; in a recovery 16.)
 abbrev pub Rests : Type 0
 Rests = (p : Port) (values : List ℕ) → length (p .payload) ≤ 68 → length values ≡ 72 → rests p values ≡ true
 
@@ -44,15 +44,20 @@ AllLook (x ∷ xs) = (isLook (x .asked) ≡ true) × AllLook xs
 abbrev pub readsOf : List ℕ → List Exchange
 readsOf values = map (λ (value : ℕ). Read 1 gave value) values
 
--- What it takes to hand up bytes: status 58h was read, then I2CDAT n times, then I2CCON with ENSIO 1, SI 0 and STO 0, all in this job; and the bytes are
--- exactly the n values that these reads gave, in order. What passed since the job began is so made up.
+-- What it takes to hand up bytes: status 58h was read, then I2CDAT n times, then I2CCON with ENSIO 1 and SI 1 still, then I2CCON with ENSIO 1, SI 0 and STO 0,
+-- all in this job; and the bytes are exactly the n values that these reads gave, in order. What passed since the job began is so made up.
 pub record ProvenRead (job : Job) (exchanges : List Exchange) (handed : List ℕ) : Type 0 where
   pub before : List Exchange
+  pub rechecked : ℕ
   pub heard : ℕ
   pub looks : List Exchange
   pub control : ℕ
-  -- 58h, n reads, 50h, looks alone, and the look that showed own STOP
-  pub madeUp : exchanges ≡ before ++ ((Read 0 gave 0x58) ∷ (readsOf handed ++ ((Write 3 0x50 gave heard) ∷ (looks ++ ((Read 3 gave control) ∷ [])))))
+  -- 58h, n reads, a look at I2CCON, 50h, looks alone, and the look that showed own STOP
+  pub madeUp : exchanges ≡
+      before
+      ++ ((Read 0 gave 0x58) ∷ (readsOf handed ++ ((Read 3 gave rechecked) ∷ ((Write 3 0x50 gave heard) ∷ (looks ++ ((Read 3 gave control) ∷ []))))))
+  -- no reset came amid the reads: I2CCON would read 00h
+  pub still : stillControl rechecked ≡ true
   pub allLook : AllLook looks
   pub stopped : stoppedControl control ≡ true
   pub number : length handed ≡ job .n
@@ -77,7 +82,7 @@ doneStatus direction.Read = 0x58
 -- STOP. What passed since the job began is so made up.
 pub record DoneSo (job : Job) (exchanges : List Exchange) : Type 0 where
   pub before : List Exchange
-  -- the n reads of a read; none in a write
+  -- the n reads of a read and the look after them; none in a write
   pub between : List Exchange
   pub heard : ℕ
   pub looks : List Exchange

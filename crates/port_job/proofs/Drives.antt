@@ -2,7 +2,7 @@
 use mathlib.Core.Bool.{Bool, true, false}
 use mathlib.Core.List.{List, [], _∷_}
 use mathlib.Core.Path.{_≡_, sym, ap, subst, _∙_}
-use Prim.Native.Nat.{ℕ, zero, suc, _+_}
+use Prim.Native.Nat.{ℕ, zero, suc, _+_, _<_}
 use native.Mathlib.Numerals.{add-one}
 use native.Mathlib.Omega.{arith}
 use borrow.Author.Tests.{lt-ltb, le-ltb}
@@ -57,10 +57,14 @@ drop-next [] (suc k) e = no-more e
 drop-next (y ∷ ys) zero e = cc
 drop-next (y ∷ ys) (suc k) e = drop-next ys k e
 
+-- the access with this number, from 0
+abbrev pub Has : List Act → ℕ → Act → Type 0
+Has xs made x = (nth xs made ≡ x) × (made < length xs)
+
 -- The accesses in hand are these: where so many are made, the next is asked for, and after the last `end` is reached.
 pub record Hand (ok : Act → Bool) (xs : List Act) (place end : ℕ → Progress → At) : Type 0 where
-  pub asks : (x : Act) (made : ℕ) (p : Progress) → T (ok x) → nth xs made ≡ x → noAccess (asking (place made p .port)) ≡ false
-  pub next : (x : Act) (made : ℕ) (p : Progress) → T (ok x) → length (p .fetched) ≡ 68 → nth xs made ≡ x →
+  pub asks : (x : Act) (made : ℕ) (p : Progress) → T (ok x) → Has xs made x → noAccess (asking (place made p .port)) ≡ false
+  pub next : (x : Act) (made : ℕ) (p : Progress) → T (ok x) → length (p .fetched) ≡ 68 → Has xs made x →
       exchange (place made p) ≡ (if ltb (made + 1) (length xs) then place (made + 1) (does x p) else end made (does x p))
   pub notes : (x : Act) (p : Progress) → T (ok x) → length (does x p .fetched) ≡ length (p .fetched)
 
@@ -74,8 +78,8 @@ module _ {ok : Act → Bool} {xs : List Act} {place end : ℕ → Progress → A
       Drives (suc (length rest)) (place made p) end (doesAll (x ∷ rest) p)
   unfolding doesAll
   drives [] x made p e o l =
-      let n = nth-drop xs made e in
       let long = sym (length-drop made xs) ∙ ap length e in
+      let n : Has xs made x = (nth-drop xs made e, omega arith) in
       let all-made = le-ltb (made + 1) (length xs) (omega arith) in
       record {
         last = made;
@@ -84,8 +88,8 @@ module _ {ok : Act → Bool} {xs : List Act} {place end : ℕ → Progress → A
             (subst (λ s. Reaches 0 s (end made (does x p))) (sym (h .next x made p (o .0) l n ∙ if-false _ _ _ all-made)) there);
       }
   drives (y ∷ rest) x made p e o l =
-      let n = nth-drop xs made e in
       let long = sym (length-drop made xs) ∙ ap length e in
+      let n : Has xs made x = (nth-drop xs made e, omega arith) in
       let more = lt-ltb (made + 1) (length xs) (omega arith) in
       let later = drives rest y (made + 1) (does x p) (rw add-one (drop-next xs made e)) (o .1) (h .notes x p (o .0) ∙ l) in
       record {

@@ -1,13 +1,16 @@
 -- The accesses of a line's acts, made one by one, do what the acts do. Assumes nothing.
+use mathlib.Core.Bool.{true, false}
 use mathlib.Core.List.{List, [], _∷_, _++_, map}
 use mathlib.Core.Path.{_≡_, refl, sym, ap, _∙_}
 use Prim.Native.Nat.{ℕ, zero, suc, _+_, _≤_}
 use native.Mathlib.Omega.{arith}
 use borrow.Author.Tests.{ltb-false}
+use lib.Dec.{eqb}
 use lib.ListN.{length, length-append, length-map}
 use Rattle.notation.proofs.Cases.{split}
 use Rattle.port.specs.InHand.{readsFrom, accesses, notes}
 use Rattle.port_job.proofs.Drives.{single, Each}
+use Rattle.runs.proofs.ActsKeep.{AllWrite}
 use Rattle.service.specs.Act.{Act, writes, readsData, readsAll, readsCount, counts, fetchOne, fetch, readTimes, does, doesAll}
 use Rattle.service.specs.Progress.{withNotedCount}
 use Rattle.service.specs.declared.progress.Progress.{Progress}
@@ -17,7 +20,13 @@ pub record Flat (acts xs : List Act) : Type 0 where
   pub steady : (count : ℕ) → accesses count acts ≡ xs
   pub does : (p : Progress) → doesAll acts p ≡ doesAll xs (withNotedCount p (notes (p .count) acts))
   pub each : Each single xs
-  pub short : length xs ≤ 70
+  pub short : length xs ≤ 69
+
+-- How the port goes through them: one after the other; or, where it reads bytes back, I2CCON is looked at before the last.
+pub data Course (status : ℕ) : List Act → Type 0 where
+  straight : {xs : List Act} → eqb status 0x58 ≡ false → Course status xs
+  rechecked : (front : List Act) (value : ℕ) → eqb status 0x58 ≡ true → Each single front → AllWrite [] front →
+      Course status (front ++ (writes 3 value ∷ []))
 
 -- acts that are one access each are their own accesses
 own-accesses : (acts : List Act) (count : ℕ) → Each single acts → accesses count acts ≡ acts
@@ -38,7 +47,7 @@ own-notes (readsAll ∷ xs) count o = absurd (o .0)
 own-notes (readsCount ∷ xs) count o = refl
 own-notes (counts k ∷ xs) count o = absurd (o .0)
 
-pub flat-own : (acts : List Act) → Each single acts → length acts ≤ 70 → Flat acts acts
+pub flat-own : (acts : List Act) → Each single acts → length acts ≤ 69 → Flat acts acts
 flat-own acts o l = record {
   steady = λ count. own-accesses acts count o;
   does = λ p. rw (own-notes acts (p .count) o);
@@ -47,7 +56,7 @@ flat-own acts o l = record {
 }
 
 -- a count noted before them
-pub flat-counted : (n : ℕ) (acts : List Act) → Each single acts → length acts ≤ 70 → Flat (counts n ∷ acts) acts
+pub flat-counted : (n : ℕ) (acts : List Act) → Each single acts → length acts ≤ 69 → Flat (counts n ∷ acts) acts
 unfolding accesses notes doesAll does
 flat-counted n acts o l = record {
   steady = λ count. own-accesses acts n o;
@@ -77,7 +86,12 @@ unfolding readsFrom doesAll does fetch
 reads-as zero i ys p = refl
 reads-as (suc more) i ys p = reads-as more (i + 1) ys (fetchOne i p)
 
-each-read : (more i : ℕ) → Each single (readsFrom more i)
+pub reads-only : (more i : ℕ) → AllWrite [] (readsFrom more i)
+unfolding readsFrom
+reads-only zero i = tt
+reads-only (suc more) i = (tt, reads-only more (i + 1))
+
+pub each-read : (more i : ℕ) → Each single (readsFrom more i)
 unfolding readsFrom
 each-read zero i = tt
 each-read (suc more) i = (tt, each-read more (i + 1))

@@ -1,24 +1,27 @@
 -- The accesses of a job's beginning, of a line of its table, and of a recovery, as the port makes them. Assumes nothing.
 use mathlib.Core.Bool.{Bool, true, false}
-use mathlib.Core.List.{List}
-use mathlib.Core.Path.{_≡_, refl, sym, ap, _∙_}
-use Prim.Native.Nat.{ℕ, _+_}
+use mathlib.Core.List.{List, [], _∷_, _++_}
+use mathlib.Core.Path.{_≡_, refl, sym, ap, subst, _∙_}
+use Prim.Native.Nat.{ℕ, zero, suc, _+_, _<_}
 use native.Mathlib.Omega.{arith}
-use lib.Dec.{T, ltb}
-use lib.ListN.{length, take, set, length-set}
+use borrow.Author.Tests.{eq-eqb, ne-eqb, lt-ltb, le-ltb, ltb-true, ltb-false}
+use lib.Dec.{T, eqb, ltb}
+use lib.ListN.{length, take, set, length-append, length-set}
 use lib.Seq.{set-out}
-use Rattle.notation.specs.Choice.{if_then_else_}
+use Rattle.notation.proofs.Cases.{if-true, if-false, and-true, and-no-right}
+use Rattle.notation.specs.Choice.{if_then_else_, _and_}
 use Rattle.port.specs.Ask.{askFor}
-use Rattle.port.specs.Hear.{concludes, onward, hearsAt, hears, notedAt, asksAt, asks}
+use Rattle.port.specs.Hear.{concludes, onward, nextOf, hearsAt, hears, notedAt, asksAt, asks}
 use Rattle.port.specs.InHand.{accesses, recovers, inHandAt, nth, placeOf, countAfter}
 use Rattle.port.specs.Port.{step}
 use Rattle.port.specs.Stage.{stageNumber}
 use Rattle.port.specs.Stand.{stand}
-use Rattle.port.specs.declared.stage.Stage.the-variants.{First, Waiting, Working, Recovering, Pausing}
+use Rattle.port.specs.declared.stage.Stage.the-variants.{First, Waiting, Working, Recovering, Pausing, Recheck}
 use Rattle.port.specs.declared.stand.Stand.{Stand}
-use Rattle.port_job.proofs.Drives.{single, isWrite, Hand}
+use Rattle.port_job.proofs.Drives.{single, isWrite, Each, Has, Hand}
+use Rattle.port_job.proofs.Settles.{Reaches, there, further}
 use Rattle.port_job.specs.OnModel.{At, at, answers, exchange, noAccess}
-use Rattle.service.specs.Act.{Act, writes, readsData, readsAll, readsCount, counts, Then, put, reads, fetchOne, does}
+use Rattle.service.specs.Act.{Act, writes, readsData, readsAll, readsCount, counts, Then, put, reads, fetchOne, does, doesAll}
 use Rattle.service.specs.JobSteps.{begins}
 use Rattle.service.specs.JobTable.{jobTable}
 use Rattle.service.specs.declared.job.Job.{Job}
@@ -60,6 +63,11 @@ single-notes readsAll p o = absurd o
 single-notes readsCount p o = refl
 single-notes (counts k) p o = absurd o
 
+pub all-note : (xs : List Act) (p : Progress) → Each single xs → length (doesAll xs p .fetched) ≡ length (p .fetched)
+unfolding doesAll
+all-note [] p o = refl
+all-note (x ∷ xs) p o = all-note xs (does x p) (o .1) ∙ single-notes x p (o .0)
+
 one-or-other : (payload : List ℕ) (b : Bool) (s t : Stand) (p : Progress) →
     holding payload (if b then s else t) p ≡ (if b then holding payload s p else holding payload t p)
 unfolding if_then_else_
@@ -70,10 +78,10 @@ one-or-other payload false s t p = refl
 module _ (payload : List ℕ) (ok : Act → Bool) (xs : List Act) (stands ends : ℕ → ℕ → Stand) where
   pub record AtHand : Type 0 where
     pub one : (x : Act) → T (ok x) → T (single x)
-    pub asking : (x : Act) (made count : ℕ) → nth xs made ≡ x → asks (stands made count) payload ≡ askFor x
-    pub hearing : (x : Act) (made count value : ℕ) → T (ok x) → nth xs made ≡ x → hears (stands made count) payload value ≡
+    pub asking : (x : Act) (made count : ℕ) → Has xs made x → asks (stands made count) payload ≡ askFor x
+    pub hearing : (x : Act) (made count value : ℕ) → T (ok x) → Has xs made x → hears (stands made count) payload value ≡
         (if ltb (made + 1) (length xs) then stands (made + 1) (countAfter x count value) else ends made (countAfter x count value))
-    pub noting : (x : Act) (made count : ℕ) → T (ok x) → nth xs made ≡ x → notedAt (stands made count) payload ≡ placeOf x
+    pub noting : (x : Act) (made count : ℕ) → T (ok x) → Has xs made x → notedAt (stands made count) payload ≡ placeOf x
 
   pub hand : AtHand → Hand ok xs (λ made p. holding payload (stands made (p .count)) p) (λ made p. holding payload (ends made (p .count)) p)
   hand g = record {
@@ -86,19 +94,98 @@ module _ (payload : List ℕ) (ok : Act → Bool) (xs : List Act) (stands ends :
     notes = λ x p o. single-notes x p (g .one x o);
   }
 
+-- the accesses before the last, and the last
+nth-front : (xs : List Act) (y : Act) (k : ℕ) → k < length xs → nth (xs ++ (y ∷ [])) k ≡ nth xs k
+unfolding nth
+nth-front [] y k l = absurd (omega arith)
+nth-front (x ∷ []) y zero l = refl
+nth-front (x ∷ []) y (suc k) l = absurd (omega arith)
+nth-front (x ∷ z ∷ zs) y zero l = refl
+nth-front (x ∷ z ∷ zs) y (suc k) l = nth-front (z ∷ zs) y k (omega arith)
+
+nth-last : (xs : List Act) (y : Act) → nth (xs ++ (y ∷ [])) (length xs) ≡ y
+unfolding nth
+nth-last [] y = refl
+nth-last (x ∷ []) y = refl
+nth-last (x ∷ z ∷ zs) y = nth-last (z ∷ zs) y
+
 -- a line of the table, whose accesses are the same whatever the count
 module _ (job : Job) (payload : List ℕ) (status answer : ℕ) (xs : List Act) (after : Then)
     (steady : (count : ℕ) → accesses count (jobTable job payload status count .acts) ≡ xs)
     (line : (count : ℕ) → jobTable job payload status count .after ≡ after) where
-  pub working : AtHand payload single xs (λ made count. stand Working job status made false answer count false)
-      (λ made count. concludes after (stand Working job status made false answer count false))
-  unfolding asks asksAt inHandAt hears hearsAt notedAt stageNumber if_then_else_
-  working = record {
+  abbrev stands : ℕ → ℕ → Stand
+  stands made count = stand Working job status made false answer count false
+
+  asked : (x : Act) (made count : ℕ) → nth xs made ≡ x → asks (stands made count) payload ≡ askFor x
+  unfolding asks asksAt inHandAt
+  asked x made count e = rw (steady count, e)
+
+  heard : (x : Act) (made count value : ℕ) → nth xs made ≡ x → hears (stands made count) payload value ≡
+      (let t = stands made (countAfter x count value) in if ltb (made + 1) (length xs) then nextOf t (length xs) else concludes after t)
+  unfolding hears hearsAt inHandAt
+  heard x made count value e = rw (steady count, e, line count)
+
+  noted : (x : Act) (made count : ℕ) → nth xs made ≡ x → notedAt (stands made count) payload ≡ placeOf x
+  unfolding notedAt stageNumber inHandAt if_then_else_
+  noted x made count e = rw (steady count, e)
+
+  -- at a status other than 58h they follow one on the other
+  pub working : eqb status 0x58 ≡ false → AtHand payload single xs stands (λ made count. concludes after (stands made count))
+  unfolding nextOf if_then_else_ _and_
+  working n = record {
     one = λ x o. o;
-    asking = λ x made count e. rw (steady count, e);
-    hearing = λ x made count value o e. rw (steady count, e, line count);
-    noting = λ x made count o e. rw (steady count, e);
+    asking = λ x made count e. asked x made count (e .0);
+    hearing = λ x made count value o e. rw n at heard x made count value (e .0);
+    noting = λ x made count o e. noted x made count (e .0);
   }
+
+  -- at 58h I2CCON is looked at before the last
+  module _ (front : List Act) (y : Act) (is : xs ≡ front ++ (y ∷ [])) where
+    abbrev m : ℕ
+    m = length front
+
+    total : length xs ≡ m + 1
+    total = ap length is ∙ length-append front (y ∷ [])
+
+    abbrev rechecks : ℕ → Stand
+    rechecks count = stand Recheck job status m false answer count false
+
+    in-front : {x : Act} {made : ℕ} → Has front made x → nth xs made ≡ x
+    in-front {x} {made} e = ap (λ (zs : List Act). nth zs made) is ∙ nth-front front y made (e .1) ∙ e .0
+
+    pub reading : eqb status 0x58 ≡ true → AtHand payload single front stands (λ made count. rechecks count)
+    unfolding nextOf if_then_else_
+    reading s = record {
+      one = λ x o. o;
+      asking = λ x made count e. asked x made count (in-front e);
+      hearing = λ x made count value o e.
+          heard x made count value (in-front e) ∙ if-true _ _ _ (lt-ltb (made + 1) (length xs) (let l = e .1 in omega (arith, total)))
+          ∙ or-looks made (countAfter x count value) (e .1) _ refl;
+      noting = λ x made count o e. noted x made count (in-front e);
+    }
+      where
+        or-looks : (made count : ℕ) → made < m → (b : Bool) → ltb (made + 1) m ≡ b →
+            nextOf (stands made count) (length xs) ≡ (if b then stands (made + 1) count else rechecks count)
+        or-looks made count l true e =
+            let more = ltb-true (made + 1) m e in if-false _ _ _ (and-no-right _ _ (ne-eqb (made + 2) (length xs) (omega (arith, total))))
+        or-looks made count l false e =
+            let no-more = ltb-false (made + 1) m e in
+            if-true _ _ _ (and-true _ _ s (eq-eqb (made + 2) (length xs) (omega (arith, total))))
+            ∙ ap (λ (k : ℕ). stand Recheck job status k false answer count false) (omega arith)
+
+    -- and the last
+    abbrev concluded : Progress → At
+    concluded p = holding payload (concludes after (stands m (p .count))) p
+
+    pub finishing : (p : Progress) → T (single y) → length (p .fetched) ≡ 68 → Reaches 1 (holding payload (stands m (p .count)) p) (concluded (does y p))
+    finishing p o l =
+        let last = ap (λ (zs : List Act). nth zs m) is ∙ nth-last front y in
+        let asks-it = asked y m (p .count) last in
+        let all-made = le-ltb (m + 1) (length xs) (omega (arith, total)) in
+        further (ap noAccess asks-it ∙ single-asks y o)
+        (subst (λ (s : At). Reaches 0 s (concluded (does y p)))
+        (sym (made-one payload (stands m (p .count)) p y (λ count. concludes after (stands m count)) o l asks-it
+        (λ value. heard y m (p .count) value last ∙ if-false _ _ _ all-made) (noted y m (p .count) last))) there)
 
 -- a write notes nothing
 record Unnoted (x : Act) : Type 0 where
@@ -121,7 +208,7 @@ module _ (job : Job) (payload : List ℕ) (status answer : ℕ) where
   unfolding asks asksAt inHandAt hears hearsAt onward notedAt stageNumber if_then_else_
   beginning = record {
     one = λ x o. write-unnoted x o .one;
-    asking = λ x made count e. rw e;
+    asking = λ x made count e. rw (e .0);
     hearing = λ x made count value o e. rw (write-unnoted x o .count count value);
     noting = λ x made count o e. sym (write-unnoted x o .place);
   }
@@ -133,7 +220,7 @@ module _ (job : Job) (payload : List ℕ) (status answer : ℕ) (settings : List
   unfolding asks asksAt inHandAt hears hearsAt onward notedAt stageNumber if_then_else_
   recovering = record {
     one = λ x o. write-unnoted x o .one;
-    asking = λ x made count e. rw (kept, e);
+    asking = λ x made count e. rw (kept, e .0);
     hearing = λ x made count value o e. rw (kept, write-unnoted x o .count count value);
     noting = λ x made count o e. sym (write-unnoted x o .place);
   }

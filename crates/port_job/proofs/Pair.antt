@@ -10,7 +10,7 @@ use lib.ListN.{length}
 use Rattle.answer.specs.Ending.{numberOf, besideOf}
 use Rattle.answer.specs.declared.ending.Ending.the-variants.{Reset}
 use Rattle.answer.specs.declared.ending.Ending.{Ending}
-use Rattle.control.specs.Flags.{flagsOf, readsAs}
+use Rattle.control.specs.Flags.{flagsOf}
 use Rattle.control.specs.Turn.{off, host, free, kind, statusOf}
 use Rattle.control.specs.Turn as turns
 use Rattle.control.specs.declared.turn.Turn.{Turn}
@@ -23,10 +23,10 @@ use Rattle.driver.specs.Run.{taking}
 use Rattle.laws.proofs.Soundness.{event-stays-sound}
 use Rattle.laws.proofs.Status.{status-reads, status-accepted, interrupts-exactly-in-host, idle-exactly-without-interrupt}
 use Rattle.notation.proofs.Among.{apart}
-use Rattle.notation.proofs.Cases.{if-true, and-no-left, split}
+use Rattle.notation.proofs.Cases.{if-true, and-true, and-no-left, split}
 use Rattle.notation.specs.Choice.{if_then_else_, _and_, _or_, among}
 use Rattle.port.specs.Hear.{concludes, enters, looked, hearsAt, hears, notedAt, asksAt, asks}
-use Rattle.port.specs.Look.{meets}
+use Rattle.port.specs.Look.{interruptIn, stillControl, meets}
 use Rattle.port.specs.Port.{step}
 use Rattle.port.specs.Stage.{stageNumber}
 use Rattle.port.specs.Stand.{stand, ended}
@@ -42,7 +42,7 @@ use Rattle.port_job.proofs.Meets.{status-met}
 use Rattle.port_job.proofs.PortLines.{Follows, going, stopping, breaking, PortLine, keptOf, met-line}
 use Rattle.port_job.proofs.Ready.{not-true, Freed, Left, freed, hosted, disabled}
 use Rattle.port_job.proofs.Settles.{Reaches, there, rests}
-use Rattle.port_job.proofs.Works.{Worked, works}
+use Rattle.port_job.proofs.Works.{controlOf, Worked, works}
 use Rattle.port_job.specs.OnModel.{At, noAccess, settled, woken}
 use Rattle.runs.proofs.FlagsHeld.{Held, awaitsStop, event-ensio, own-stopped, idle-held, work-held, reset-disables}
 use Rattle.runs.proofs.Invariant.{jobTurns, Good}
@@ -102,10 +102,6 @@ unfolding _and_
 not-come true sto e = ap not (sym e)
 not-come false sto e = refl
 
--- what I2CCON reads
-abbrev value : Controller → ℕ
-value c = readsAs (c .control) (interrupts c)
-
 -- Where the port waits.
 module _ {job : Job} {payload carried : List ℕ} {sent : ℕ} {p : Progress} (g : Good job payload carried sent p) (h : Held p)
     (w : Waits job (keptOf job payload) p) where
@@ -126,15 +122,15 @@ module _ {job : Job} {payload carried : List ℕ} {sent : ℕ} {p : Progress} (g
     wakes =
         ap (λ (xs : List ℕ). settled (holding kept (standsAt stage.Look) (withFetched (taking p next) xs))) (unnoted (p .fetched) 0 (g .whole .notes))
 
-    looks : {k : ℕ} {t : Stand} {u : At} → looked (standsAt stage.Look) (value next) ≡ t →
+    looks : {k : ℕ} {t : Stand} {u : At} → looked (standsAt stage.Look) (controlOf next) ≡ t →
         Reaches k (holding kept t (taking p next)) u → Reaches (suc k) looking u
     unfolding hears hearsAt asks asksAt notedAt stageNumber if_then_else_ taking
     looks {k} {t} {u} e r =
-        after-read kept (standsAt stage.Look) (taking p next) 3 (value next) (g .whole .notes) refl refl (control-read next next-sound)
+        after-read kept (standsAt stage.Look) (taking p next) 3 (controlOf next) (g .whole .notes) refl refl (control-read next next-sound)
         (subst (λ (x : Stand). Reaches k (holding kept x (taking p next)) u) (sym e) r)
 
     -- and comes to rest
-    comes-to : {k : ℕ} {t : Stand} (u : Stand) (r : Progress) → looked (standsAt stage.Look) (value next) ≡ t →
+    comes-to : {k : ℕ} {t : Stand} (u : Stand) (r : Progress) → looked (standsAt stage.Look) (controlOf next) ≡ t →
         Reaches k (holding kept t (taking p next)) (holding kept u r) → noAccess (asks u kept) ≡ true → suc k ≤ 72 →
         woken (waitsAt job kept w .port) next ≡ holding kept u r
     comes-to u r e reach a l = wakes ∙ rests 72 (looks e reach) a l
@@ -147,7 +143,7 @@ module _ {job : Job} {payload carried : List ℕ} {sent : ℕ} {p : Progress} (g
       let see = shown (c .control) (interrupts c) in
       let quiet = see .interrupt ∙ apart _ jobTurns (host ∷ []) tt (g .turn) in
       let due = not-come _ _ (w .dueAt ∙ sym (see .sto ∙ h .sto)) in
-      comes-to c (g .whole .sound) (standsAt stage.Waiting) (taking p c) (looks-on (standsAt stage.Look) (value c) (see .ensio ∙ h .ensio) quiet due) there
+      comes-to c (g .whole .sound) (standsAt stage.Waiting) (taking p c) (looks-on (standsAt stage.Look) (controlOf c) (see .ensio ∙ h .ensio) quiet due) there
       refl (omega arith)
 
   -- A pair is taken.
@@ -173,7 +169,7 @@ module _ {job : Job} {payload carried : List ℕ} {sent : ℕ} {p : Progress} (g
     unfolding taking
     places-noted = g .whole .notes
 
-    see : Shown (next .control) (interrupts next) (value next)
+    see : Shown (next .control) (interrupts next) (controlOf next)
     see = shown (next .control) (interrupts next)
 
     -- event 14
@@ -186,7 +182,7 @@ module _ {job : Job} {payload carried : List ℕ} {sent : ℕ} {p : Progress} (g
           status = w .status;
           made = w .made;
           same =
-              comes-to next next-sound (ended (standsAt stage.Look) 29 0) q (looks-reset (standsAt stage.Look) (value next) (see .ensio ∙ no)) there refl
+              comes-to next next-sound (ended (standsAt stage.Look) 29 0) q (looks-reset (standsAt stage.Look) (controlOf next) (see .ensio ∙ no)) there refl
               (omega arith);
           over = refl;
           beside = refl;
@@ -210,7 +206,7 @@ module _ {job : Job} {payload carried : List ℕ} {sent : ℕ} {p : Progress} (g
           made = w .made;
           same =
               comes-to next next-sound (ended (standsAt stage.Look) (w .answer) (p .count)) q
-              (looks-stopped (standsAt stage.Look) (value next) (see .ensio ∙ o .2) (see .interrupt ∙ no) due (see .sto ∙ o .4)) there refl (omega arith)
+              (looks-stopped (standsAt stage.Look) (controlOf next) (see .ensio ∙ o .2) (see .interrupt ∙ no) due (see .sto ∙ o .4)) there refl (omega arith)
               ∙ ap (λ (x : ℕ). holding kept (ended (standsAt stage.Look) x (p .count)) q) (a .0);
           over = refl;
           beside = a .1;
@@ -227,7 +223,7 @@ module _ {job : Job} {payload carried : List ℕ} {sent : ℕ} {p : Progress} (g
         ∙ ap not (interrupts-exactly-in-host next next-sound)
 
     module _ (not-reset : eqb number 14 ≡ false) where
-      enabled : flagsOf (value next) .ensio ≡ true
+      enabled : flagsOf (controlOf next) .ensio ≡ true
       enabled = see .ensio ∙ event-ensio payload form g h number argument accepted not-reset
 
       -- no status: the port waits on
@@ -246,7 +242,7 @@ module _ {job : Job} {payload carried : List ℕ} {sent : ℕ} {p : Progress} (g
             answers = w .answers;
           })
           (comes-to next next-sound (standsAt stage.Waiting) q
-          (looks-on (standsAt stage.Look) (value next) enabled (see .interrupt ∙ quiet) (and-no-left _ _ no)) there refl (omega arith))
+          (looks-on (standsAt stage.Look) (controlOf next) enabled (see .interrupt ∙ quiet) (and-no-left _ _ no)) there refl (omega arith))
           (g .whole .lasts) (i .0)
 
       module _ (f : eqb (statusOf (next .turn)) 0xF8 ≡ false) where
@@ -262,15 +258,29 @@ module _ {job : Job} {payload carried : List ℕ} {sent : ℕ} {p : Progress} (g
         abbrev r : Progress
         r = doesAll (line .work .acts) q
 
-        worked : Worked job kept status (w .answer) (line .work) (line .ours) (w .status) (w .made) (w .due) q places-noted
-        worked = works job kept status (w .answer) (line .work) (line .ours) (w .status) (w .made) (w .due) q places-noted (line .xs) (line .flat)
+        -- ENSIO and SI are 1
+        shows : interruptIn (controlOf next) ≡ true
+        shows = see .interrupt ∙ not-false _ (sym idle-or-not ∙ f)
+
+        taken-sound : sound (q .controller) ≡ true
+        unfolding taking
+        taken-sound = next-sound
+
+        still : stillControl (controlOf (q .controller)) ≡ true
+        unfolding stillControl taking
+        still = and-true _ _ enabled shows
+
+        worked : Worked job kept status (w .answer) (line .work) (line .ours) (w .status) (w .made) (w .due) q places-noted taken-sound still
+        worked =
+            works job kept status (w .answer) (line .work) (line .ours) (w .status) (w .made) (w .due) q places-noted taken-sound still (line .xs)
+            (line .flat) (line .course)
 
         abbrev concluded : Then → At
         concluded after = holding kept (concludes after (stand stage.Working job status (worked .last) false (w .answer) (r .count) false)) r
 
         -- the port sees that there is a status
-        interrupted : looked (standsAt stage.Look) (value next) ≡ standsAt stage.Interrupted
-        interrupted = looks-interrupted (standsAt stage.Look) (value next) enabled (see .interrupt ∙ not-false _ (sym idle-or-not ∙ f))
+        interrupted : looked (standsAt stage.Look) (controlOf next) ≡ standsAt stage.Interrupted
+        interrupted = looks-interrupted (standsAt stage.Look) (controlOf next) enabled shows
 
         abbrev Arrives : At → Type 0
         Arrives s = Reaches (suc (worked .k)) (holding kept (standsAt stage.Interrupted) q) s

@@ -24,13 +24,15 @@ use Rattle.controller.specs.Record.{sound}
 use Rattle.controller.specs.declared.record.Controller.{Controller}
 use Rattle.notation.proofs.Cases.{if-false}
 use Rattle.notation.specs.Choice.{if_then_else_, _and_, among}
+use Rattle.port.specs.InHand.{readsFrom}
 use Rattle.port.specs.Look.{meets}
 use Rattle.port.specs.Port.{padded, keptData}
-use Rattle.port_job.proofs.Flat.{Flat, flat-own, flat-counted, flat-written, flat-read}
+use Rattle.port_job.proofs.Flat.{Flat, Course, straight, rechecked}
+use Rattle.port_job.proofs.Flat.{flat-own, flat-counted, flat-written, reads-only, each-read, flat-read}
 use Rattle.runs.proofs.Lines.{Line, dataWork, faultWork, JobLines, job-lines}
 use Rattle.service.proofs.AccessesLeave.{control-written}
 use Rattle.service.proofs.Formed.{Formed}
-use Rattle.service.specs.Act.{Act, writes, counts, Then, goesOn, awaits, ends, Work, does, doesAll}
+use Rattle.service.specs.Act.{Act, writes, counts, Then, goesOn, awaits, ends, Work, readTimes, does, doesAll}
 use Rattle.service.specs.JobSteps.{stopAfter}
 use Rattle.service.specs.JobTable.{jobTable}
 use Rattle.service.specs.declared.job.Job.{Job}
@@ -59,6 +61,7 @@ pub record PortLine (job : Job) (kept payload : List ℕ) (status : ℕ) : Type 
   pub theirs : (count : ℕ) → jobTable job payload status count ≡ work
   pub ours : (count : ℕ) → jobTable job kept status count ≡ work
   pub flat : Flat (work .acts) xs
+  pub course : Course status xs
   pub follows : Follows status (work .acts) (work .after)
 
 -- a fault is left as it is; after 38h 40h is written, and the turn stays
@@ -107,41 +110,48 @@ module _ (job : Job) (payload : List ℕ) (high : job .n ≤ 68) where
   b = job-lines job kept
 
   line : {status : ℕ} {work : Work} {xs : List Act} → Line (jobTable job payload) status work → Line (jobTable job kept) status work →
-      Flat (work .acts) xs → Follows status (work .acts) (work .after) → L status
-  line t o f w = record { work = _; xs = _; theirs = t; ours = o; flat = f; follows = w }
+      Flat (work .acts) xs → Course status xs → Follows status (work .acts) (work .after) → L status
+  line t o f c w = record { work = _; xs = _; theirs = t; ours = o; flat = f; course = c; follows = w }
 
   at-08 : L 0x08
-  at-08 = line (a .at-08) (b .at-08) (flat-own _ (tt, (tt, tt)) (omega arith)) going
+  at-08 = line (a .at-08) (b .at-08) (flat-own _ (tt, (tt, tt)) (omega arith)) (straight refl) going
 
   at-18 : take (job .n) kept ≡ take (job .n) payload → length (take (job .n) payload) ≤ 68 → L 0x18
   at-18 e l =
-      line (a .at-18) (λ count. b .at-18 count ∙ ap (λ (bytes : List ℕ). dataWork bytes) e) (flat-written (take (job .n) payload) 0x41 l) going
+      line (a .at-18) (λ count. b .at-18 count ∙ ap (λ (bytes : List ℕ). dataWork bytes) e) (flat-written (take (job .n) payload) 0x41 l)
+      (straight refl) going
 
   at-40 : L 0x40
-  at-40 = line (a .at-40) (b .at-40) (flat-own _ (tt, tt) (omega arith)) going
+  at-40 = line (a .at-40) (b .at-40) (flat-own _ (tt, tt) (omega arith)) (straight refl) going
 
   -- 20h, 48h and 28h: a count, and 50h
-  counted : (status n : ℕ) (e : Ending) → besideOf e ≡ 0 → Line (jobTable job payload) status (stopAfter (counts n ∷ []) e) →
+  counted : (status n : ℕ) (e : Ending) → eqb status 0x58 ≡ false → besideOf e ≡ 0 → Line (jobTable job payload) status (stopAfter (counts n ∷ []) e) →
       Line (jobTable job kept) status (stopAfter (counts n ∷ []) e) → L status
-  counted status n e z t o = line t o (flat-counted n _ (tt, tt) (omega arith)) (stopping e z)
+  counted status n e s z t o = line t o (flat-counted n _ (tt, tt) (omega arith)) (straight s) (stopping e z)
 
   at-30 : L 0x30
-  at-30 = line (a .at-30) (b .at-30) (flat-own _ (tt, (tt, (tt, (tt, tt)))) (omega arith)) (stopping DataNacked refl)
+  at-30 = line (a .at-30) (b .at-30) (flat-own _ (tt, (tt, (tt, (tt, tt)))) (omega arith)) (straight refl) (stopping DataNacked refl)
 
   at-58 : L 0x58
-  at-58 = line (a .at-58) (b .at-58) (flat-read (job .n) 0x50) (stopping Done refl)
+  at-58 =
+      let n = readTimes (job .n) in
+      line (a .at-58) (b .at-58) (flat-read (job .n) 0x50) (rechecked (readsFrom n 0) 0x50 refl (each-read n 0) (reads-only n 0)) (stopping Done refl)
 
   at-38 : L 0x38
   unfolding among if_then_else_
-  at-38 = line (a .at-38) (b .at-38) (flat-own _ (tt, tt) (omega arith)) (breaking Lost refl refl stays-at-38h)
+  at-38 = line (a .at-38) (b .at-38) (flat-own _ (tt, tt) (omega arith)) (straight refl) (breaking Lost refl refl stays-at-38h)
 
-  at-fault : (status : ℕ) → eqb status 0xF8 ≡ false → Line (jobTable job payload) status faultWork → Line (jobTable job kept) status faultWork → L status
+  at-fault : (status : ℕ) → eqb status 0xF8 ≡ false → eqb status 0x58 ≡ false → Line (jobTable job payload) status faultWork →
+      Line (jobTable job kept) status faultWork → L status
   unfolding among if_then_else_
-  at-fault status n t o = line t o (flat-own [] tt (omega arith)) (breaking Fault refl refl (stays-at-fault status n))
+  at-fault status n s t o = line t o (flat-own [] tt (omega arith)) (straight s) (breaking Fault refl refl (stays-at-fault status n))
 
   -- the statuses at which a job of either direction ends
   at-ends : At L (0x38 ∷ 0x00 ∷ 0x70 ∷ 0x78 ∷ [])
-  at-ends = (at-38, (at-fault 0x00 refl (a .at-00) (b .at-00), (at-fault 0x70 refl (a .at-70) (b .at-70), (at-fault 0x78 refl (a .at-78) (b .at-78), tt))))
+  at-ends =
+      let at-70 = at-fault 0x70 refl refl (a .at-70) (b .at-70) in
+      let at-78 = at-fault 0x78 refl refl (a .at-78) (b .at-78) in
+      (at-38, (at-fault 0x00 refl refl (a .at-00) (b .at-00), (at-70, (at-78, tt))))
 
   by-direction : (d : Direction) → job .direction ≡ d → (job .direction ≡ Write → job .n ≤ length payload) → At L (meets d)
   unfolding keptData
@@ -152,12 +162,12 @@ module _ (job : Job) (payload : List ℕ) (high : job .n ≤ 68) where
         (
           at-18 same (omega arith),
           (
-            counted 0x20 0 AddressNacked refl (a .at-20) (b .at-20),
-            (counted 0x28 (job .n) Done refl (a .at-28) (b .at-28), (at-30, at-ends)),
+            counted 0x20 0 AddressNacked refl refl (a .at-20) (b .at-20),
+            (counted 0x28 (job .n) Done refl refl (a .at-28) (b .at-28), (at-30, at-ends)),
           ),
         ),
       )
-  by-direction Read e l = (at-08, (at-40, (counted 0x48 0 AddressNacked refl (a .at-48) (b .at-48), (at-58, at-ends))))
+  by-direction Read e l = (at-08, (at-40, (counted 0x48 0 AddressNacked refl refl (a .at-48) (b .at-48), (at-58, at-ends))))
 
 -- the line at a status that a job meets
 pub met-line : {room places : ℕ} (job : Job) (payload : List ℕ) (form : Formed job (length payload) room places) (status : ℕ) →

@@ -44,6 +44,7 @@
 //!     0x68, 0x08, // own START
 //!     0x48, 0x40, // the address byte was acknowledged
 //!     0x49, 0x58, 0x04, 0xA2, 0x19, 0x6E, // four bytes came in
+//!     0x49, // and nothing has happened to the chip meanwhile
 //!     0x40, // own STOP
 //! ];
 //! assert_eq!(run(&mut port, first, &registers), (0, 4));

@@ -9,8 +9,8 @@ const PAUSE: Step = Step::Pause;
 const OLD: u8 = 0xEE;
 
 /// What the registers read in a read of three bytes from 50h.
-const READ: [u8; 12] = [
-    0x40, 0xF8, 0x68, 0x08, 0x48, 0x40, 0x49, 0x58, 0x5C, 0x5D, 0x5E, 0x40,
+const READ: [u8; 13] = [
+    0x40, 0xF8, 0x68, 0x08, 0x48, 0x40, 0x49, 0x58, 0x5C, 0x5D, 0x5E, 0x49, 0x40,
 ];
 
 const fn write(register: u8, value: u8) -> Step {
@@ -87,13 +87,14 @@ fn every_step_of_a_read() {
         &[read(3), read(0), write(1, 0xA1), write(3, 0x40), WAIT],
         // 40h: three bytes in.
         &[read(3), read(0), write(3, 0x41), WAIT],
-        // 58h: they are read, then a STOP.
+        // 58h: they are read, the chip is looked at once more, then a STOP.
         &[
             read(3),
             read(0),
             read(1),
             read(1),
             read(1),
+            read(3),
             write(3, 0x50),
             WAIT,
         ],

@@ -23,7 +23,7 @@ use perlovasta_dock::{STATE_LEN, Step};
 pub const LONGEST: usize = 200;
 
 /// The most accesses before a rest, wherever the state says that it stands.
-const ANY_BURST: usize = BURST + 1;
+const ANY_BURST: usize = BURST;
 
 /// A state, and what is asked of it.
 struct AnyState<'a> {

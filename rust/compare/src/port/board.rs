@@ -11,7 +11,7 @@ use model::{Controller, Refusal};
 use perlovasta_dock::Step;
 
 /// The most accesses from one rest to the next: two reads, 68 data bytes and I2CCON.
-pub const BURST: usize = 71;
+pub const BURST: usize = 72;
 
 /// Own STOP.
 const OWN_STOP: u8 = 4;

@@ -37,7 +37,7 @@ pub fn check(log: &[Exchange], answer: u8, count: u8, n: u8) -> Checked<()> {
         24 => ends_with_own_stop(log) && last_moved(log) == Some(count),
         25 => count == 0 && log.ends_with(&[Read(STATUS, 0x38), Write(CONTROL, 0x40)]),
         26 => count == 0 && matches!(log, [.., Read(STATUS, 0x00 | 0x70 | 0x78)]),
-        29 => count == 0 && matches!(log, [.., Read(CONTROL, value)] if value & ENSIO == 0),
+        29 => count == 0 && shows_reset(log),
         _ => false,
     };
     if fits {
@@ -62,11 +62,21 @@ fn are_idle(looks: &[Exchange]) -> bool {
     looks.iter().all(is_idle) && looked_at(CONTROL) && looked_at(STATUS)
 }
 
-/// Whether I2CSTA was only read where I2CCON just gave SI 1, and I2CCON only after a wait.
+/// Whether the last look shows a reset: ENSIO 0, or amid the work at a status SI 0.
+fn shows_reset(log: &[Exchange]) -> bool {
+    match log {
+        [.., Read(DATA, _), Read(CONTROL, value)] => value & (ENSIO | SI) != ENSIO | SI,
+        [.., Read(CONTROL, value)] => value & ENSIO == 0,
+        _ => false,
+    }
+}
+
+/// Whether I2CSTA was only read where I2CCON just gave SI 1, and I2CCON only after a wait or after
+/// bytes were read back.
 fn look_in_order(log: &[Exchange]) -> bool {
     log.windows(2).all(|pair| match pair[1] {
         Read(STATUS, _) => matches!(pair[0], Read(CONTROL, value) if value & SI != 0),
-        Read(CONTROL, _) => pair[0] == Wait,
+        Read(CONTROL, _) => matches!(pair[0], Wait | Read(DATA, _)),
         _ => true,
     })
 }
@@ -100,9 +110,14 @@ fn last_moved(log: &[Exchange]) -> Option<u8> {
 }
 
 /// Whether a finished read of so many bytes handed up what it read: I2CSTA gave 58h, I2CDAT then as
-/// many bytes as are handed up, and these; then own STOP was asked for and seen.
+/// many bytes as are handed up, and these, I2CCON then still ENSIO and SI 1; then own STOP was asked
+/// for and seen.
 pub fn check_read(log: &[Exchange], handed: &[u8]) -> Checked<()> {
     let (before, _) = at_stop(log);
+    let before = match before {
+        [before @ .., Read(CONTROL, value)] if value & (ENSIO | SI) == ENSIO | SI => before,
+        _ => &[],
+    };
     let split = before.len().checked_sub(handed.len());
     let fits = split.is_some_and(|split| {
         let (before, data) = before.split_at(split);
@@ -134,20 +149,21 @@ mod tests {
     /// A job begins.
     const BEGUN: [Exchange; 3] = [Read(3, 0x40), Read(0, 0xF8), Write(3, 0x60)];
     /// From the data on a read of two bytes is done.
-    const DONE: [Exchange; 9] = [
+    const DONE: [Exchange; 10] = [
         Write(3, 0x41),
         Wait,
         Read(3, 0x49),
         Read(0, 0x58),
         Read(1, 7),
         Read(1, 9),
+        Read(3, 0x49),
         Write(3, 0x50),
         Wait,
         Read(3, 0x40),
     ];
 
     /// The finished read with one exchange changed.
-    fn with(at: usize, exchange: Exchange) -> [Exchange; 9] {
+    fn with(at: usize, exchange: Exchange) -> [Exchange; 10] {
         let mut log = DONE;
         log[at] = exchange;
         log
@@ -171,12 +187,15 @@ mod tests {
         for log in [
             with(3, Read(0, 0x48)),
             with(4, Read(2, 7)),
-            with(6, Write(3, 0x40)),
-            with(7, Read(1, 0)),
-            with(8, Read(3, 0x50)),
-            with(8, Read(3, 0x48)),
-            with(8, Read(3, 0x00)),
-            with(8, Wait),
+            with(6, Read(3, 0x41)),
+            with(6, Read(3, 0x00)),
+            with(6, Wait),
+            with(7, Write(3, 0x40)),
+            with(8, Read(1, 0)),
+            with(9, Read(3, 0x50)),
+            with(9, Read(3, 0x48)),
+            with(9, Read(3, 0x00)),
+            with(9, Wait),
         ] {
             assert!(check_read(&log, &[7, 9]).is_err());
         }
@@ -185,13 +204,15 @@ mod tests {
     #[test]
     fn answers_have_their_cause() {
         assert!(!bears_out(&DONE, 0, 1));
-        assert!(!bears_out(&DONE[..7], 0, 2));
+        assert!(!bears_out(&DONE[..8], 0, 2));
         let look = [Wait, Read(3, 0x48)];
         let lost = [look[0], look[1], Read(0, 0x38), Write(3, 0x40)];
         assert!(bears_out(&lost, 25, 0) && !bears_out(&lost[..3], 25, 0));
         let fault = [look[0], look[1], Read(0, 0x70)];
         assert!(bears_out(&fault, 26, 0) && !bears_out(&look, 26, 0));
         assert!(bears_out(&[Wait, Read(3, 0x3F)], 29, 0) && !bears_out(&look, 29, 0));
+        let cut = [&DONE[..6], &[Read(3, 0x41)]].concat();
+        assert!(bears_out(&cut, 29, 0) && !bears_out(&DONE[..7], 29, 0));
         let nacked = [Read(2, 4), Write(0, 0), Write(3, 0x50), Wait, Read(3, 0x40)];
         assert!(bears_out(&nacked, 24, 4) && !bears_out(&nacked, 24, 2));
     }
@@ -213,6 +234,6 @@ mod tests {
     fn looks_in_their_order() {
         assert!(!bears_out(&with(2, Read(3, 0x41)), 0, 2));
         assert!(!bears_out(&with(1, Read(3, 0x49)), 0, 2));
-        assert!(!bears_out(&with(7, Read(0, 0xF8)), 0, 2));
+        assert!(!bears_out(&with(8, Read(0, 0xF8)), 0, 2));
     }
 }

@@ -115,7 +115,7 @@ fn state_sections(tally: &Tally) -> Vec<Section> {
     let lied = answers(&tally.lied, &[0, 21, 22, 23, 24, 25, 26, 29]);
     let read = vec![
         Cell::all("n", &tally.lied_done[1..]),
-        Cell::new("71 accesses in a row", tally.full_bursts),
+        Cell::new("72 accesses in a row", tally.full_bursts),
         Cell::new("not over in time", tally.endless),
     ];
     let states = vec![

@@ -60,7 +60,8 @@ returns-2 c =
     let long = ltb-false (length m) 148 (at .if1 .left) in
     let job = jobAsked (a .kind) (a .address) (a .n) in
     let p = started (portOf m) job bytes in
-    let kept = c .before .before .before .before .before .before .before .kept .ensures .1 bytes refl ∙ ap (λ (j : Job). keptData (j .direction) (j .n) bytes) (asked .ensures) in
+    let kept = c .before .before .before .before .before .before .before .kept .ensures .1 bytes refl
+    ∙ ap (λ (j : Job). keptData (j .direction) (j .n) bytes) (asked .ensures) in
     let stand = begun .start .ensures ∙ ap (λ (s : Stand). startOf s (asked .result) (length bytes)) (begun .before .load .ensures)
     ∙ ap (λ (j : Job). startOf (standOf m) j (length bytes)) (asked .ensures) in
     let first = start-asks (take 68 (drop 12 (put .last .0))) (standOf m) job (length bytes) in

@@ -29,7 +29,8 @@ returns-2 c =
     let destination = now (a .destination) in
     let fetched = take 68 (drop 80 m) in
     let given = ap (λ (s : Stand). takeOf s fetched (length destination)) (c .before .before .before .before .load .ensures) in
-    let e : takeCall m (length destination) ≡ taken (portOf m) (length destination) = if-false _ _ _ (c .before .before .before .before .before .before .if1 .left) in
+    let long = c .before .before .before .before .before .before .if1 .left in
+    let e : takeCall m (length destination) ≡ taken (portOf m) (length destination) = if-false _ _ _ long in
     let up = c .before .before .hand-up .ensures in (
       up .0 ∙ ap (λ (t : Taken). t .answer) (given ∙ sym e),
       up .1 ∙ ap (λ (t : Taken). laid (t .handed) destination) (given ∙ sym e),

@@ -3,13 +3,14 @@
 use perlovasta_dock::{STATE_LEN, Step, sys};
 
 /// What the registers read in the read.
-const REGISTERS: [u8; 18] = [
+const REGISTERS: [u8; 19] = [
     0x40, 0xF8, // ready
     0x60, // nothing has come yet
     0x68, 0x08, // own START
     0x48, 0x40, // the address byte was acknowledged
     0x49, 0x58, // eight bytes came in
     0x04, 0xA2, 0x19, 0x6E, 0x35, 0x80, 0x00, 0x5C, // these
+    0x49, // and nothing has happened to the chip meanwhile
     0x40, // own STOP
 ];
 

@@ -44,19 +44,24 @@ returns-9 c = search (key-is 9 (c .before .args .k) (c .match .keys9), cases)
 
 returns-10 : tie.Need-returns-10
 unfolding stageFor
-returns-10 c =
+returns-10 c = search (key-is 10 (c .before .args .k) (c .match .keys10), cases)
+
+returns-11 : tie.Need-returns-11
+unfolding stageFor
+returns-11 c =
     let k = c .before .args .k in
     let rest = c .match .rest in
     search (
-      ne-eqb k 9 (rest .1),
-      ne-eqb k 8 (rest .0 .1),
-      ne-eqb k 7 (rest .0 .0 .1),
-      ne-eqb k 6 (rest .0 .0 .0 .1),
-      ne-eqb k 5 (rest .0 .0 .0 .0 .1),
-      ne-eqb k 4 (rest .0 .0 .0 .0 .0 .1),
-      ne-eqb k 3 (rest .0 .0 .0 .0 .0 .0 .1),
-      ne-eqb k 2 (rest .0 .0 .0 .0 .0 .0 .0 .1),
-      ne-eqb k 1 (rest .0 .0 .0 .0 .0 .0 .0 .0 .1),
+      ne-eqb k 10 (rest .1),
+      ne-eqb k 9 (rest .0 .1),
+      ne-eqb k 8 (rest .0 .0 .1),
+      ne-eqb k 7 (rest .0 .0 .0 .1),
+      ne-eqb k 6 (rest .0 .0 .0 .0 .1),
+      ne-eqb k 5 (rest .0 .0 .0 .0 .0 .1),
+      ne-eqb k 4 (rest .0 .0 .0 .0 .0 .0 .1),
+      ne-eqb k 3 (rest .0 .0 .0 .0 .0 .0 .0 .1),
+      ne-eqb k 2 (rest .0 .0 .0 .0 .0 .0 .0 .0 .1),
+      ne-eqb k 1 (rest .0 .0 .0 .0 .0 .0 .0 .0 .0 .1),
       cases,
     )
 
@@ -73,4 +78,5 @@ of-number-spec =
     returns-7
     returns-8
     returns-9
-    returns-10)
+    returns-10
+    returns-11)

@@ -45,6 +45,10 @@ returns-10 : tie.Need-returns-10
 unfolding asks asksAt
 returns-10 c = rw (c .enum-told10 .given .1)
 
+returns-11 : tie.Need-returns-11
+unfolding asks asksAt
+returns-11 c = rw (c .enum-told11 .given .1)
+
 pub ask-spec : {M : Type 1} → statement M
 ask-spec =
     tie.close
@@ -62,6 +66,7 @@ ask-spec =
     (λ c. search needs)
     (λ c κs. search needs)
     (λ c. search needs)
+    (λ c. search needs)
     returns
     returns-2
     returns-3
@@ -71,4 +76,5 @@ ask-spec =
     returns-7
     returns-8
     returns-9
-    returns-10)
+    returns-10
+    returns-11)

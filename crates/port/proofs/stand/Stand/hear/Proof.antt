@@ -11,7 +11,7 @@ use Rattle.port.proofs.Nth.{least-within, recovers-total}
 use Rattle.port.specs.Hear.{onward, hearsAt, hears}
 use Rattle.port.specs.InHand.{inHandAt}
 use Rattle.port.specs.Stand.{atStage, advanced}
-use Rattle.port.specs.declared.stage.Stage.the-variants.{Look, Interrupted, Working, Recovering, Pausing}
+use Rattle.port.specs.declared.stage.Stage.the-variants.{Look, Interrupted, Working, Recovering, Pausing, Recheck}
 use Rattle.port.specs.declared.stage.Stage.{Stage}
 use Rattle.port.specs.declared.stand.Stand.{Stand}
 use denote.Ref.{now}
@@ -94,6 +94,12 @@ returns-12 : tie.Need-returns-12
 unfolding hears hearsAt
 returns-12 c = rw (c .before .enum-told10 .given .1) (c .recover .ensures)
 
+returns-13 : tie.Need-returns-13
+unfolding hearsAt
+returns-13 c =
+    let args = c .before .before .before .before .args in
+    c .recheck .ensures ∙ sym (at-stage (args .self) (now (args .payload)) (args .value) Recheck (c .before .enum-told11 .given .1))
+
 pub hear-spec : {M : Type 1} → statement M
 hear-spec =
     tie.close
@@ -122,6 +128,8 @@ hear-spec =
     onward-requires-2
     (λ c. search needs)
     (λ c κs. search needs)
+    (λ c. search needs)
+    (λ c κs. search needs)
     returns
     returns-2
     returns-3
@@ -133,4 +141,5 @@ hear-spec =
     returns-9
     returns-10
     returns-11
-    returns-12)
+    returns-12
+    returns-13)

@@ -16,7 +16,7 @@ use Rattle.port.proofs.stage.Stage.{the-type}
 use Rattle.port.specs.Hear.{notedAt}
 use Rattle.port.specs.InHand.{readsFrom, accesses, inHandAt, nth, placeOf}
 use Rattle.port.specs.Stage.{stageNumber}
-use Rattle.port.specs.declared.stage.Stage.the-variants.{Over, Control, Status, First, Waiting, Look, Interrupted, Working, Recovering, Pausing}
+use Rattle.port.specs.declared.stage.Stage.the-variants.{Over, Control, Status, First, Waiting, Look, Interrupted, Working, Recovering, Pausing, Recheck}
 use Rattle.port.specs.declared.stage.Stage.{Stage}
 use Rattle.service.specs.Act.{Act, writes, counts}
 use Rattle.service.specs.JobTable.{jobTable}
@@ -49,6 +49,7 @@ tag-number Interrupted = refl
 tag-number Working = refl
 tag-number Recovering = refl
 tag-number Pausing = refl
+tag-number Recheck = refl
 
 returns : tie.Need-returns
 unfolding notedAt jobTable among if_then_else_ inHandAt accesses stageNumber
@@ -79,7 +80,7 @@ returns-4 : tie.Need-returns-4
 unfolding notedAt
 returns-4 c payload =
     let stage = c .before .args .self .stage in
-    let others = passes (λ k. eqb k 7) false (0 ∷ 1 ∷ 2 ∷ 3 ∷ 4 ∷ 5 ∷ 6 ∷ 8 ∷ 9 ∷ []) (tagOf the-type stage) (c .match .keys2) tt in
+    let others = passes (λ k. eqb k 7) false (0 ∷ 1 ∷ 2 ∷ 3 ∷ 4 ∷ 5 ∷ 6 ∷ 8 ∷ 9 ∷ 10 ∷ []) (tagOf the-type stage) (c .match .keys2) tt in
     sym (if-false _ _ _ (ap (λ (k : ℕ). eqb k 7) (sym (tag-number stage)) ∙ others))
 
 pub place-spec : {M : Type 1} → statement M

@@ -10,9 +10,9 @@ use lib.ListN.{length}
 use Rattle.notation.proofs.Cases.{if-true, if-false}
 use Rattle.notation.specs.Choice.{if_then_else_}
 use Rattle.port.proofs.Nth.{line-fits}
-use Rattle.port.specs.Hear.{concludes, hearsAt}
+use Rattle.port.specs.Hear.{concludes, nextOf, hearsAt}
 use Rattle.port.specs.InHand.{accesses, line, inHandAt, nth, countAfter}
-use Rattle.port.specs.Stand.{withCount, advanced}
+use Rattle.port.specs.Stand.{withCount}
 use Rattle.port.specs.declared.stage.Stage.the-variants.{Working}
 use Rattle.port.specs.declared.stand.Stand.{Stand}
 use Rattle.service.specs.Act.{Act}
@@ -28,17 +28,20 @@ abbrev noted : Stand → List ℕ → ℕ → Stand
 noted s payload value = withCount s (countAfter (nth (ofLine s payload) (s .made)) (s .count) value)
 
 worked : (s : Stand) (payload : List ℕ) (value : ℕ) → s .stage ≡ Working → hearsAt Working s payload value
-    ≡ (if ltb (s .made + 1) (length (ofLine s payload)) then advanced (noted s payload value) else concludes (line s payload .after) (noted s payload value))
+    ≡ (if ltb (s .made + 1) (length (ofLine s payload)) then nextOf (noted s payload value) (length (ofLine s payload))
+    else concludes (line s payload .after) (noted s payload value))
 unfolding hearsAt inHandAt
 worked s payload value e = rw e
 
-advance-requires : tie.Need-advance-requires
-advance-requires c κs =
+next-of-requires : tie.Need-next-of-requires
+next-of-requires c κs =
     let counted = c .before .before .before .before in
     let args = counted .before .before .args in
     let s = args .self in
     let fits = line-fits (s .job) (now (args .payload)) (s .status) (s .count) (counted .before .before .pre .0) in
-    omega (arith, ltb-true, ap (λ (t : Stand). t .made) (c .before .with-count .ensures), counted .work-total .ensures)
+    let made = ap (λ (t : Stand). t .made) (c .before .with-count .ensures) in
+    let total = counted .work-total .ensures in
+    (omega (arith, ltb-true, made, total), omega (arith, fits, total))
 
 returns : tie.Need-returns
 returns c =
@@ -46,8 +49,10 @@ returns c =
     let args = counted .before .before .args in
     let s = args .self in
     let xs = now (args .payload) in
-    c .advance .ensures
-    ∙ ap (λ (t : Stand). advanced t) (c .before .before .with-count .ensures ∙ ap (withCount s) (c .before .before .before .note-count .ensures xs))
+    c .next-of .ensures
+    ∙ ap (λ (t : Stand). nextOf t (counted .work-total .result))
+    (c .before .before .with-count .ensures ∙ ap (withCount s) (c .before .before .before .note-count .ensures xs))
+    ∙ ap (λ (total : ℕ). nextOf (noted s xs (args .value)) total) (counted .work-total .ensures)
     ∙ sym (worked s xs (args .value) (counted .before .before .pre .1)
     ∙ if-true _ _ _ (rw (counted .work-total .ensures) at (c .before .if1 .taken)))
 
@@ -72,7 +77,7 @@ work-spec =
     (λ c. search needs)
     (λ c κs. search needs)
     (λ c κs. search needs)
-    advance-requires
+    next-of-requires
     returns
     (λ c κs. search needs)
     returns-2)
