@@ -5,7 +5,7 @@ use Rattle.port.specs.declared.ask.Ask.the-variants.{Write, Read, Wait, 
 use Rattle.port.specs.declared.ask.Ask.{Ask}
 use Rattle.service.specs.Act.{Act, writes, readsData, readsAll, readsCount, counts}
 
--- the access of an act. (The two that are no single access do not occur here: `accesses` has none of them.)
+-- the access of an act. (The two that are no single access do not occur here, since `accesses` has none of them: any value would do.)
 unfoldable pub askFor : Act → Ask
 askFor (writes register value) = Write register value
 askFor (readsData at) = Read 1

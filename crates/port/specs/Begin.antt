@@ -20,7 +20,7 @@ unfit job dataLength = malformed job dataLength 68 69 0
 unfoldable pub unsettled : Stand → Bool
 unsettled s = not (eqb (stageNumber (s .stage)) over) or s .stale
 
--- a job begins: 21; 22, with no access made; or I2CCON is asked for
+-- a job begins: 21; 22, with no access made; or I2CCON is asked for. (27 stands as the answer until it is over, and nobody sees it.)
 unfoldable pub startOf : Stand → Job → ℕ → Stand
 startOf s job dataLength =
     if unfit job dataLength then brokenOff 21 (unsettled s)

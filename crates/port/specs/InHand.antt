@@ -14,7 +14,7 @@ unfoldable pub readsFrom : ℕ → ℕ → List Act
 readsFrom zero i = []
 readsFrom (suc more) i = readsData i ∷ readsFrom more (i + 1)
 
--- the accesses of some acts, with this count noted before them. (No table reads I2CDAT as often as a count says that it has read itself.)
+-- the accesses of some acts, with this count noted before them. (A count that was read from the chip is never the number of reads after it.)
 unfoldable pub accesses : ℕ → List Act → List Act
 accesses count [] = []
 accesses count (writes register value ∷ xs) = writes register value ∷ accesses count xs

@@ -26,7 +26,7 @@ unfoldable pub stoppedControl : ℕ → Bool
 stoppedControl value = flagsOf value .ensio and not (interruptIn value) and not (flagsOf value .sto)
 
 -- The statuses that a job can meet, by its direction: document 01, Jobs, with 18h, 20h, 28h and 30h in a write alone, and 40h, 48h and 58h in a
--- read alone. At F8h, and at any other that a chip may read, the port waits on: so no answer comes of it.
+-- read alone (50h in none: LB is 1). At F8h, and at any other that a chip may read, the port waits on: so no answer comes of it.
 abbrev pub meets : Direction → List ℕ
 meets Write = 0x08 ∷ 0x18 ∷ 0x20 ∷ 0x28 ∷ 0x30 ∷ 0x38 ∷ 0x00 ∷ 0x70 ∷ 0x78 ∷ []
 meets Read = 0x08 ∷ 0x40 ∷ 0x48 ∷ 0x58 ∷ 0x38 ∷ 0x00 ∷ 0x70 ∷ 0x78 ∷ []

@@ -22,7 +22,7 @@ ready-again : (s : At) (r : Played) → JobLeaves s r → among (r .result .answ
 ready-again s r (untouched e u n) a = absurd (true≢false (sym a ∙ n))
 ready-again s r (began l) a =
     let f = l .finished a in
-    record { settled = f .0; looks = freed-looks _ (l .still-sound) (f .1); isReady = freed-ready _ (l .still-sound) (f .1) }
+    record { broughtBack = f .0; looks = freed-looks _ (l .still-sound) (f .1); isReady = freed-ready _ (l .still-sound) (f .1) }
 
 job-holds : (asked : Job) (payload script : List ℕ) (s : At) → Between s → JobHolds asked payload script s
 unfolding leaves
@@ -43,7 +43,7 @@ recovery-holds settings s sc = record { done = done; refused = λ b. let d = dec
     done b =
         let r = recovers-so settings s b sc in
         let k = r .back in
-        (r .done, record { settled = r .settles; looks = freed-looks _ (k .still-sound) (k .freed); isReady = freed-ready _ (k .still-sound) (k .freed) })
+        (r .done, record { broughtBack = r .settles; looks = freed-looks _ (k .still-sound) (k .freed); isReady = freed-ready _ (k .still-sound) (k .freed) })
 
 holds : (x : Item) (s : At) → Between s → Holds x s
 holds (job asked payload script) s b = job-holds asked payload script s b

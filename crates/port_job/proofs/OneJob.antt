@@ -38,7 +38,7 @@ use Rattle.port_job.proofs.Ready.{Calm, Looks, calm-looks}
 use Rattle.port_job.proofs.Script.{Leaves, Gives, over-plays, plays-run}
 use Rattle.port_job.proofs.Settles.{Reaches, there, rests}
 use Rattle.port_job.specs.Items.{looksReady, portJobOf}
-use Rattle.port_job.specs.OnModel.{At, at, Played, endsSo, noAccess, plays, settled, played, reported}
+use Rattle.port_job.specs.OnModel.{At, at, Played, endsSo, noAccess, plays, atRest, played, reported}
 use Rattle.runs.proofs.Begins.{begins-to}
 use Rattle.runs.proofs.FlagsHeld.{Held, held-begun, good-begun}
 use Rattle.runs.proofs.Invariant.{waitingTurns, Good}
@@ -67,7 +67,7 @@ pub data Rests (asked : Job) (payload : List ℕ) (s : At) : Type 0 where
 pub record JobGives (asked : Job) (payload script : List ℕ) (s : At) (r : Played) : Type 0 where
   pub same : reported r ≡ portJobOf asked payload script (s .port .stand) (s .chip)
   pub leaves : JobLeaves s r
-  pub rested : Rests asked payload (settled (at (started (s .port) asked payload) (s .chip)))
+  pub rested : Rests asked payload (atRest (at (started (s .port) asked payload) (s .chip)))
 
 -- what a register read, where it is read and nothing changes
 as-read : (c : Controller) (register value : ℕ) → readOf c register ≡ accepts c value → readOf c register ≡ accepts c (reads c register)
@@ -99,12 +99,12 @@ module _ (asked : Job) (payload script : List ℕ) (s : At) where
   abbrev begun : At
   begun = standing (startOf (s .port .stand) asked (length payload))
 
-  played-from : {t : At} → settled begun ≡ t → played asked payload script s ≡ plays t 0 script
+  played-from : {t : At} → atRest begun ≡ t → played asked payload script s ≡ plays t 0 script
   unfolding played started starting
   played-from e = ap (λ (u : At). plays u 0 script) e
 
   declines-so : (job : Job) (answer : ℕ) (stale : Bool) → eqb answer 0 ≡ false → among answer (0 ∷ 23 ∷ 24 ∷ []) ≡ false →
-      stale ≡ unsettled (s .port .stand) → settled begun ≡ overAt job answer stale →
+      stale ≡ unsettled (s .port .stand) → atRest begun ≡ overAt job answer stale →
       portJobOf asked payload script (s .port .stand) c ≡ declines c answer → JobGives asked payload script s (played asked payload script s)
   unfolding endsSo unsettled stageNumber starting started asks asksAt _or_
   declines-so job answer stale z n u e d =
@@ -120,8 +120,8 @@ module _ (asked : Job) (payload script : List ℕ) (s : At) where
   Done = JobGives asked payload script s (played asked payload script s)
 
   settles-at : {k : ℕ} {t : At} (x : Stand) → startOf (s .port .stand) asked (length payload) ≡ x → Reaches k (standing x) t →
-      noAccess (asking (t .port)) ≡ true → k ≤ 72 → settled begun ≡ t
-  settles-at x e reach a l = ap (λ (y : Stand). settled (standing y)) e ∙ rests 72 reach a l
+      noAccess (asking (t .port)) ≡ true → k ≤ 72 → atRest begun ≡ t
+  settles-at x e reach a l = ap (λ (y : Stand). atRest (standing y)) e ∙ rests 72 reach a l
 
   -- 21; 22 where the chip has to be brought back first
   by-21 : unfit asked (length payload) ≡ true → Done
@@ -194,7 +194,7 @@ module _ (asked : Job) (payload script : List ℕ) (s : At) where
         answers = λ e. absurd (false≢true e);
       }
 
-      settles-waiting : settled begun ≡ waitsAt asked kept waits
+      settles-waiting : atRest begun ≡ waitsAt asked kept waits
       unfolding looksReady asks asksAt noAccess waits
       settles-waiting =
           settles-at _ starts-so

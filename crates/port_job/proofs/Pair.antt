@@ -43,7 +43,7 @@ use Rattle.port_job.proofs.PortLines.{Follows, going, stopping, breakin
 use Rattle.port_job.proofs.Ready.{not-true, Freed, Left, freed, hosted, disabled}
 use Rattle.port_job.proofs.Settles.{Reaches, there, rests}
 use Rattle.port_job.proofs.Works.{controlOf, Worked, works}
-use Rattle.port_job.specs.OnModel.{At, noAccess, settled, woken}
+use Rattle.port_job.specs.OnModel.{At, noAccess, atRest, woken}
 use Rattle.runs.proofs.FlagsHeld.{Held, awaitsStop, event-ensio, own-stopped, idle-held, work-held, reset-disables}
 use Rattle.runs.proofs.Invariant.{jobTurns, Good}
 use Rattle.service.proofs.AnyTable.{at-reset, at-stop, at-idle, at-status}
@@ -117,10 +117,10 @@ module _ {job : Job} {payload carried : List ℕ} {sent : ℕ} {p : Progress} (g
     abbrev looking : At
     looking = holding kept (standsAt stage.Look) (taking p next)
 
-    wakes : woken (waitsAt job kept w .port) next ≡ settled looking
+    wakes : woken (waitsAt job kept w .port) next ≡ atRest looking
     unfolding woken step hears hearsAt notedAt stageNumber if_then_else_ taking
     wakes =
-        ap (λ (xs : List ℕ). settled (holding kept (standsAt stage.Look) (withFetched (taking p next) xs))) (unnoted (p .fetched) 0 (g .whole .notes))
+        ap (λ (xs : List ℕ). atRest (holding kept (standsAt stage.Look) (withFetched (taking p next) xs))) (unnoted (p .fetched) 0 (g .whole .notes))
 
     looks : {k : ℕ} {t : Stand} {u : At} → looked (standsAt stage.Look) (controlOf next) ≡ t →
         Reaches k (holding kept t (taking p next)) u → Reaches (suc k) looking u

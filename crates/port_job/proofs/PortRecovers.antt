@@ -26,7 +26,7 @@ use Rattle.port_job.proofs.InHand.{holding, hand}
 use Rattle.port_job.proofs.PortLines.{front}
 use Rattle.port_job.proofs.Recovery.{BroughtBack, brought-back}
 use Rattle.port_job.proofs.Settles.{at-rest, rests}
-use Rattle.port_job.specs.OnModel.{At, answers, exchange, noAccess, settled, recovered}
+use Rattle.port_job.specs.OnModel.{At, answers, exchange, noAccess, atRest, recovered}
 use Rattle.service.specs.Act.{Act, writes, doesAll}
 use Rattle.service.specs.Progress.{starting}
 use Rattle.service.specs.declared.progress.Progress.{Progress}
@@ -58,9 +58,9 @@ module _ (settings : List ℕ) (s : At) where
   standing x = holding (padded settings) x (starting (s .chip))
 
   -- from the stand with which it begins
-  from-stand : (x : Stand) → recoverOf (s .port .stand) settings ≡ x → recovered settings s ≡ exchange (settled (standing x))
+  from-stand : (x : Stand) → recoverOf (s .port .stand) settings ≡ x → recovered settings s ≡ exchange (atRest (standing x))
   unfolding recovered recovering starting
-  from-stand x e = ap (λ (y : Stand). exchange (settled (standing y))) e
+  from-stand x e = ap (λ (y : Stand). exchange (atRest (standing y))) e
 
   -- settings that no recovery takes
   abbrev refusing : Stand

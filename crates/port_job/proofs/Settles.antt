@@ -5,7 +5,7 @@ use Prim.Native.Nat.{ℕ, zero, suc, _+_, _≤_}
 use native.Mathlib.Omega.{arith}
 use Rattle.notation.proofs.Cases.{if-true, if-false}
 use Rattle.port.specs.Port.{asking}
-use Rattle.port_job.specs.OnModel.{At, exchange, noAccess, settlesIn}
+use Rattle.port_job.specs.OnModel.{At, exchange, noAccess, restsIn}
 
 -- this many exchanges, each for an access, lead from one to the other
 pub data Reaches : ℕ → At → At → Type 0 where
@@ -19,13 +19,13 @@ joined zero e (further a p) q = absurd (omega (arith, e))
 joined (suc n) e (further a p) q = further a (joined n (omega (arith, e)) p q)
 
 -- where no access is asked for it rests, with any number of exchanges left
-pub at-rest : (m : ℕ) (s : At) → noAccess (asking (s .port)) ≡ true → settlesIn m s ≡ s
-unfolding settlesIn
+pub at-rest : (m : ℕ) (s : At) → noAccess (asking (s .port)) ≡ true → restsIn m s ≡ s
+unfolding restsIn
 at-rest zero s e = refl
 at-rest (suc m) s e = if-true _ _ _ e
 
-pub rests : {s t : At} {k : ℕ} (m : ℕ) → Reaches k s t → noAccess (asking (t .port)) ≡ true → k ≤ m → settlesIn m s ≡ t
-unfolding settlesIn
+pub rests : {s t : At} {k : ℕ} (m : ℕ) → Reaches k s t → noAccess (asking (t .port)) ≡ true → k ≤ m → restsIn m s ≡ t
+unfolding restsIn
 rests {s} m there e h = at-rest m s e
 rests zero (further a p) e h = absurd (omega arith)
 rests (suc m) (further a p) e h = if-false _ _ _ a ∙ rests m p e (omega arith)

@@ -25,7 +25,7 @@ ReadyOrBusy s = unsettled (s .port .stand) ≡ false → looksReady (s .chip) �
 
 -- after own STOP the port calls the chip ready, and so does the model
 pub record ReadyAgain (s : At) : Type 0 where
-  pub settled : unsettled (s .port .stand) ≡ false
+  pub broughtBack : unsettled (s .port .stand) ≡ false
   pub looks : looksReady (s .chip) ≡ true
   pub isReady : ready (s .chip) ≡ true
 

@@ -12,7 +12,7 @@ use Rattle.port.specs.Begin.{badSettings}
 use Rattle.port.specs.Port.{asking, started}
 use Rattle.port.specs.declared.ask.Ask.the-variants.{Wait}
 use Rattle.port_job.specs.Items.{Item, job, recovery, event, leaves}
-use Rattle.port_job.specs.OnModel.{At, at, settled, woken}
+use Rattle.port_job.specs.OnModel.{At, at, atRest, woken}
 
 -- the wait is over and nothing has come: the port looks, and waits again
 abbrev pub LooksFree : At → Type 0
@@ -28,7 +28,7 @@ AtEveryWait s (number ∷ argument ∷ rest) =
     AtEveryWait (woken (s .port) (eventOf (s .chip) number argument .next)) rest)
 
 abbrev pub InJob : Item → At → Type 0
-InJob (job asked payload script) s = AtEveryWait (settled (at (started (s .port) asked payload) (s .chip))) script
+InJob (job asked payload script) s = AtEveryWait (atRest (at (started (s .port) asked payload) (s .chip))) script
 InJob (recovery settings) s = Unit {0}
 InJob (event number argument) s = Unit {0}
 

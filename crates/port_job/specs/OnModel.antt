@@ -36,16 +36,16 @@ unfoldable pub exchange : At → At
 exchange s = let o = answers (asking (s .port)) (s .chip) in at (step (s .port) (o .value)) (o .next)
 
 -- accesses are made until none is asked for. (There are at most 72 in a row: `Rests`, crates/port_chip.)
-unfoldable pub settlesIn : ℕ → At → At
-settlesIn zero s = s
-settlesIn (suc more) s = if noAccess (asking (s .port)) then s else settlesIn more (exchange s)
+unfoldable pub restsIn : ℕ → At → At
+restsIn zero s = s
+restsIn (suc more) s = if noAccess (asking (s .port)) then s else restsIn more (exchange s)
 
-abbrev pub settled : At → At
-settled s = settlesIn 72 s
+abbrev pub atRest : At → At
+atRest s = restsIn 72 s
 
 -- a wait is over: this is what the bus has made of the controller, and the port goes on to its next wait or its end
 unfoldable pub woken : Port → Controller → At
-woken p c = settled (at (step p 0) c)
+woken p c = atRest (at (step p 0) c)
 
 -- What a run gives: the result, the bytes sent from here on, and the port as it is left.
 pub record Played : Type 0 where
@@ -94,7 +94,7 @@ plays s events (event ∷ argument ∷ rest) =
 
 -- a job, from its start: what it gives, and the port as it is left
 unfoldable pub played : Job → List ℕ → List ℕ → At → Played
-played job payload script s = plays (settled (at (started (s .port) job payload) (s .chip))) 0 script
+played job payload script s = plays (atRest (at (started (s .port) job payload) (s .chip))) 0 script
 
 -- the job's report: the bytes handed up are taken after it, into a destination of 68 bytes
 unfoldable pub reported : Played → Report
@@ -102,4 +102,4 @@ reported r = record { result = r .result; sent = r .sent; handed = taken (r .por
 
 -- a recovery: its writes, and the pause after them
 unfoldable pub recovered : List ℕ → At → At
-recovered settings s = exchange (settled (at (recovering (s .port) settings) (s .chip)))
+recovered settings s = exchange (atRest (at (recovering (s .port) settings) (s .chip)))
