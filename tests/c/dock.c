@@ -47,7 +47,8 @@ static void take(void) {
 }
 
 int main(void) {
-    /* I2CCON and I2CSTA in turn, then the three bytes, then I2CCON three times: SI 1 still, STO 1, and STO 0. In the second list the chip was reset amid the reads. */
+    /* I2CCON and I2CSTA in turn, then the three bytes, then I2CCON three times: SI 1 still, STO 1, and STO 0. In the second list
+       the chip was reset amid the reads. */
     static const uint8_t answered[] = {0x40, 0xF8, 0x68, 0x08, 0x48, 0x40, 0x49, 0x58, 0x11, 0x22, 0x33, 0x49, 0x50, 0x40};
     static const uint8_t reset[] = {0x40, 0xF8, 0x68, 0x08, 0x48, 0x40, 0x49, 0x58, 0x11, 0x11, 0x22, 0x00};
     static const uint8_t silent[] = {0x40, 0xF8, 0x68, 0x08, 0x48, 0x48, 0x40};

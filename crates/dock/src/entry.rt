@@ -119,7 +119,8 @@ pub extern "C" fn perlovasta_give_up(state: &mut [u8]) -> u32
 #[no_mangle]
 pub extern "C" fn perlovasta_take(state: &[u8], destination: &mut [u8]) -> u8
     ensures answer { λ r. ⌜ r ≡ (takeCall (now (state .entry)) (length (now (destination .entry)))) .answer ⌝ }
-    ensures handed { λ _. ⌜ now (destination .exit) ≡ laid ((takeCall (now (state .entry)) (length (now (destination .entry)))) .handed) (now (destination .entry)) ⌝ }
+    ensures handed { λ _. ⌜ now (destination .exit)
+        ≡ laid ((takeCall (now (state .entry)) (length (now (destination .entry)))) .handed) (now (destination .entry)) ⌝ }
 {
     let short = state.len() < 148;
     if short {

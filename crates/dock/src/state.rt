@@ -58,7 +58,8 @@ pub(crate) fn load(state: &[u8]) -> Stand
 
 // Where the job stands, put into the state's bytes: but for the mark, the address and n, which stand there.
 fn update(state: &mut [u8], s: Stand)
-    requires { ⌜ (148 ≤ length (now state)) × ((marked (now state) ≡ true) × (getD (now state) 4 0 ≡ s .job .address .0) × (getD (now state) 5 0 ≡ s .job .n)) ⌝ }
+    requires { ⌜ (148 ≤ length (now state))
+        × ((marked (now state) ≡ true) × (getD (now state) 4 0 ≡ s .job .address .0) × (getD (now state) 5 0 ≡ s .job .n)) ⌝ }
     ensures { λ _. ⌜ now (state .exit) ≡ laid (headBytes s) (now (state .entry)) ⌝ }
 {
     let stage = s.stage;
@@ -109,7 +110,8 @@ pub(crate) fn keep(state: &mut [u8], place: usize, value: u8)
 
 // The state is put, and the step told.
 pub(crate) fn tell(state: &mut [u8], s: Stand) -> u32
-    requires { ⌜ (148 ≤ length (now state)) × ((marked (now state) ≡ true) × (getD (now state) 4 0 ≡ s .job .address .0) × (getD (now state) 5 0 ≡ s .job .n)) ⌝ }
+    requires { ⌜ (148 ≤ length (now state))
+        × ((marked (now state) ≡ true) × (getD (now state) 4 0 ≡ s .job .address .0) × (getD (now state) 5 0 ≡ s .job .n)) ⌝ }
     ensures step { λ r. ⌜ r ≡ askNumber (asks s (take 68 (drop 12 (now (state .entry))))) ⌝ }
     ensures state { λ _. ⌜ now (state .exit) ≡ laid (headBytes s) (now (state .entry)) ⌝ }
 {

@@ -25,7 +25,8 @@ impl Stand {
     // Of a job that is done.
     fn hand_up_done(self, fetched: &[u8], destination: &mut [u8]) -> u8
         ensures answer { λ r. ⌜ r ≡ (takeDone self (now (fetched .entry)) (length (now (destination .entry)))) .answer ⌝ }
-        ensures handed { λ _. ⌜ now (destination .exit) ≡ laid ((takeDone self (now (fetched .entry)) (length (now (destination .entry)))) .handed) (now (destination .entry)) ⌝ }
+        ensures handed { λ _. ⌜ now (destination .exit)
+            ≡ laid ((takeDone self (now (fetched .entry)) (length (now (destination .entry)))) .handed) (now (destination .entry)) ⌝ }
     {
         let job = self.job;
         let direction = job.direction;
@@ -44,7 +45,8 @@ impl Stand {
     // The bytes of a finished read go to the destination; else nothing does, and the answer says why.
     pub fn hand_up(self, fetched: &[u8], destination: &mut [u8]) -> u8
         ensures answer { λ r. ⌜ r ≡ (takeOf self (now (fetched .entry)) (length (now (destination .entry)))) .answer ⌝ }
-        ensures handed { λ _. ⌜ now (destination .exit) ≡ laid ((takeOf self (now (fetched .entry)) (length (now (destination .entry)))) .handed) (now (destination .entry)) ⌝ }
+        ensures handed { λ _. ⌜ now (destination .exit)
+            ≡ laid ((takeOf self (now (fetched .entry)) (length (now (destination .entry)))) .handed) (now (destination .entry)) ⌝ }
     {
         let stage = self.stage;
         let over = stage.number() == 0;
