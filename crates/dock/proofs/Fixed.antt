@@ -2,14 +2,15 @@
 use mathlib.Core.Bool.{true}
 use mathlib.Core.List.{List, [], _∷_}
 use mathlib.Core.Path.{_≡_, refl, sym, ap, _∙_}
-use Prim.Native.Nat.{ℕ, _≤_}
+use Prim.Native.Nat.{ℕ, _+_, _≤_, _<_}
 use native.Mathlib.Omega.{arith}
 use lib.ListN.{length, set, getD}
-use Rattle.dock.proofs.Laid.{getD-before}
+use lib.Seq.{sets, set-getD, getD-set-other}
+use Rattle.notation.proofs.Laid.{getD-before, laid-sets}
 use Rattle.dock.specs.StateBytes.{marked, standOf}
 use Rattle.notation.proofs.Cases.{if-true}
 use Rattle.notation.specs.Choice.{_and_}
-use Rattle.notation.specs.Overlay.{laidAt}
+use Rattle.notation.specs.Overlay.{laid, laidAt}
 use Rattle.port.specs.declared.stand.Stand.{Stand}
 use Rattle.service.specs.declared.job.Job.{Job}
 
@@ -42,3 +43,20 @@ fixed-stored s (a ∷ b ∷ c ∷ []) h = absurd (omega (arith, h))
 fixed-stored s (a ∷ b ∷ c ∷ d ∷ []) h = absurd (omega (arith, h))
 fixed-stored s (a ∷ b ∷ c ∷ d ∷ e ∷ []) h = absurd (omega (arith, h))
 fixed-stored s (a ∷ b ∷ c ∷ d ∷ e ∷ f ∷ m) h = (refl, refl, refl)
+
+-- what stands there is stored
+there : (l : List ℕ) (i x : ℕ) → getD l i 0 ≡ x → set l i x ≡ l
+there l i x e = ap (set l i) (sym e) ∙ set-getD l i 0
+
+-- bytes 2, 3, and from 6 on are stored, and the others stand there
+pub laid-but : (a b d e f g : ℕ) (xs m : List ℕ) → getD m 0 0 ≡ a → getD m 1 0 ≡ b → getD m 4 0 ≡ f → getD m 5 0 ≡ g → 6 + length xs ≤ length m →
+    sets (set (set m 2 d) 3 e) 6 xs ≡ laid (a ∷ b ∷ d ∷ e ∷ f ∷ g ∷ xs) m
+laid-but a b d e f g xs m at0 at1 at4 at5 h =
+    let l = set (set m 2 d) 3 e in
+    let same : (i : ℕ) → 3 < i → getD l i 0 ≡ getD m i 0 =
+    λ i more. getD-set-other (set m 2 d) 3 i e 0 (λ is. omega (arith, is, more)) ∙ getD-set-other m 2 i d 0 (λ is. omega (arith, is, more)) in
+    sym (laid-sets (a ∷ b ∷ d ∷ e ∷ f ∷ g ∷ xs) m (omega (arith, h))
+    ∙ ap (λ (k : List ℕ). sets (set (set (set (set (set k 1 b) 2 d) 3 e) 4 f) 5 g) 6 xs) (there m 0 a at0)
+    ∙ ap (λ (k : List ℕ). sets (set (set (set (set k 2 d) 3 e) 4 f) 5 g) 6 xs) (there m 1 b at1)
+    ∙ ap (λ (k : List ℕ). sets (set k 5 g) 6 xs) (there l 4 f (same 4 (omega arith) ∙ at4))
+    ∙ ap (λ (k : List ℕ). sets k 6 xs) (there l 5 g (same 5 (omega arith) ∙ at5)))

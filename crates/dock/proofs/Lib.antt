@@ -1,6 +1,5 @@
 -- Laws of the state's bytes.
 pub mod Padded
-pub mod Laid
 pub mod ReadBack
 pub mod Fixed
 pub mod Told

@@ -6,7 +6,7 @@ use native.Mathlib.Nat.{le-of-suc-le-suc}
 use native.Mathlib.Omega.{arith}
 use lib.ListN.{length, take, drop, getD, replicate, length-append, length-replicate}
 use lib.Seq.{length-take-le, getD-take}
-use Rattle.driver.proofs.Lists.{drop-one}
+use Rattle.notation.proofs.Lists.{drop-one}
 use Rattle.port.specs.Port.{padded}
 
 -- after the bytes, and after the zeros too, there are zeros

@@ -11,7 +11,7 @@ use lib.Seq.{take-at, drop-at, drop-drop}
 use Rattle.address.specs.Number.{bitOf}
 use Rattle.address.specs.declared.number.Direction.the-variants.{Write, Read}
 use Rattle.address.specs.declared.number.Direction.{Direction}
-use Rattle.dock.proofs.Laid.{over, laid-length, part-length}
+use Rattle.notation.proofs.Laid.{laid-whole, laid-length, part-length}
 use Rattle.dock.specs.Calls.{StepCall, tooShort, telling, nextCall}
 use Rattle.dock.specs.ReadBack.{ReadBack, stateAfter, CallsInTurn}
 use Rattle.dock.specs.StateBytes.{bit, headBytes, bytesOf, marked, standOf, portOf}
@@ -86,7 +86,7 @@ parts-back p rest a b =
 pub read-back : ReadBack
 read-back p m a b l =
     let n = size p a b in
-    ap portOf (over (bytesOf p) m (omega (arith, n, l))) ∙ parts-back p (drop (length (bytesOf p)) m) a b
+    ap portOf (laid-whole (bytesOf p) m (omega (arith, n, l))) ∙ parts-back p (drop (length (bytesOf p)) m) a b
 
 one-call : (m : List ℕ) (value : ℕ) → 148 ≤ length m → portOf (laid (nextCall m value .state) m) ≡ step (portOf m) value
 unfolding nextCall telling tooShort step portOf

@@ -4,7 +4,7 @@ use mathlib.Core.Path.{_≡_, refl, sym, ap, _∙_}
 use Prim.Native.Nat.{ℕ, _+_, _≤_}
 use native.Mathlib.Omega.{arith}
 use lib.ListN.{length, take, drop}
-use Rattle.dock.proofs.Laid.{laid-append, laidAt-append, laid-same, read-laid, before-laid}
+use Rattle.notation.proofs.Laid.{laid-append, laidAt-append, laid-same, read-laid, before-laid}
 use Rattle.dock.specs.Calls.{StepCall, notDone, telling}
 use Rattle.dock.specs.StateBytes.{headBytes, bytesOf}
 use Rattle.notation.specs.Overlay.{laid, laidAt}

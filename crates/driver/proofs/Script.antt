@@ -14,7 +14,7 @@ use Rattle.answer.specs.declared.Refusal.{Refusal}
 use Rattle.controller.specs.Event.{eventOf}
 use Rattle.controller.specs.Reply.{Outcome}
 use Rattle.notation.proofs.Overlay.{at-start, none}
-use Rattle.driver.proofs.Lists.{drop-one}
+use Rattle.notation.proofs.Lists.{drop-one}
 use Rattle.driver.specs.Run.{Run, closes, breaks, sending, taking, run}
 use Rattle.notation.specs.Overlay.{laid, laidAt}
 use Rattle.answer.specs.declared.ending.Ending.the-variants.{Unfinished, Refused}

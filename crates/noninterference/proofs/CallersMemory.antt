@@ -11,7 +11,8 @@ use Rattle.noninterference.proofs.Twin.{Twin}
 use Rattle.noninterference.specs.CallersMemory.{SameFirstBytes, SameCalls, StaysAlike, CallersMemory}
 use Rattle.noninterference.specs.OldBytes.{GivenJob, Seen, answered, worked, AlikeButForPlaces}
 use Rattle.notation.specs.Overlay.{laid}
-use Rattle.runs.proofs.Fits.{always-fits, laid-whole, begins-with}
+use Rattle.notation.proofs.Laid.{laid-whole}
+use Rattle.runs.proofs.Fits.{always-fits, begins-with}
 
 -- of what was seen of a job
 abbrev sentOf : Seen → List ℕ

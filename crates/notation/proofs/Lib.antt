@@ -2,3 +2,5 @@
 pub mod Cases
 pub mod Among
 pub mod Overlay
+pub mod Laid
+pub mod Lists

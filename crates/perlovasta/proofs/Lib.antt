@@ -4,3 +4,4 @@ pub mod Numbers
 pub mod LogGroups
 pub mod Few
 pub mod Ways
+pub mod Answered

@@ -12,7 +12,7 @@ use Rattle.controller.specs.Record.{sound}
 use Rattle.controller.specs.Reply.{Outcome}
 use Rattle.controller.specs.declared.record.Controller.{Controller}
 use Rattle.driver.proofs.Script.{drop-two}
-use Rattle.driver.proofs.Lists.{drop-one}
+use Rattle.notation.proofs.Lists.{drop-one}
 use Rattle.laws.proofs.Soundness.{read-stays-sound, write-stays-sound, event-stays-sound}
 use Rattle.notation.proofs.Cases.{split}
 use Rattle.notation.specs.Choice.{_or_}

@@ -1,20 +1,13 @@
--- The bytes of a number, one at a time, and how large a turn's mark and a reason's number are. Assumes nothing.
+-- The bytes of a number, one at a time, and how large a reason's number is. Assumes nothing.
 use mathlib.Core.List.{[], _∷_}
 use mathlib.Core.Path.{_≡_, refl, ap}
 use Prim.Native.Nat.{ℕ, suc, _+_, _-_, _<_, _≤_, _/_, _%_}
 use native.Mathlib.Omega.{arith}
-use lib.Dec.{eqb}
 use lib.ListN.{replicate}
 use Rattle.control.specs.Reason.{reasonNumber}
 use Rattle.control.specs.declared.reason.Reason.the-variants.{NoneYet, CountReached, Nack, Outside, ArbitrationLost, Fault, Reset}
 use Rattle.control.specs.declared.reason.Reason.{Reason}
-use Rattle.control.specs.declared.turn.Called.the-variants.{Own, General}
-use Rattle.control.specs.declared.turn.Called.{Called}
-use Rattle.control.specs.declared.turn.Edge.the-variants.{Stop, Start}
-use Rattle.control.specs.declared.turn.Edge.{Edge}
-use Rattle.notation.proofs.Cases.{split}
 use Rattle.notation.specs.Overlay.{laid}
-use Rattle.perlovasta.specs.Log.{edgeMark, calledMark}
 use Rattle.perlovasta.specs.ReportBytes.{lowFirst}
 
 -- one byte of those that are left, and none
@@ -34,18 +27,6 @@ low-none i left h =
 pub low-all : (n : ℕ) → laid (lowFirst 8 n) (replicate 8 0) ≡ lowFirst 8 n
 unfolding laid lowFirst
 low-all n = refl
-
--- a mark is 16 or 0
-pub edge-small : (r status : ℕ) (edge : Edge) → r ≡ edgeMark status edge → r ≤ 16
-unfolding edgeMark
-edge-small r status Stop e = omega arith
-edge-small r status Start e =
-    omega (arith, e, split (λ (n : ℕ). n ≤ 16) (eqb status 0xA0) 16 0 (λ _. omega arith) (λ _. omega arith))
-
-pub called-small : (r : ℕ) (called : Called) → r ≡ calledMark called → r ≤ 16
-unfolding calledMark
-called-small r Own e = omega arith
-called-small r General e = omega arith
 
 -- a reason's number has three bits
 pub reason-small : (r : ℕ) (reason : Reason) → r ≡ reasonNumber reason → r ≤ 6

@@ -1,4 +1,4 @@
--- What the library's two functions give.
+-- What the library's functions give.
 pub mod ReportBytes
 pub mod Job
 pub mod Log

@@ -9,6 +9,9 @@ unfoldable pub lowFirst : ℕ → ℕ → List ℕ
 lowFirst zero n = []
 lowFirst (suc places) n = n % 256 ∷ lowFirst places (n / 256)
 
+abbrev pub reportSize : ℕ
+reportSize = 12
+
 -- 12 bytes: the answer, the number beside it, the count, how many bytes were sent, and the events used
 unfoldable pub reportBytes : Result → ℕ → List ℕ
 reportBytes r sent = r .answer ∷ r .refused ∷ r .count ∷ sent ∷ lowFirst 8 (r .events)

@@ -12,7 +12,7 @@ use Rattle.perlovasta.specs.Log.{entryOf}
 
 -- its result, and the bytes that the log begins with after it, its rest as it was
 pub record TraceCall : Type 0 where
-  pub accepted : Bool
+  pub answer : ℕ
   pub logged : List ℕ
 
 -- not whole groups, or a group of a kind over 2
@@ -31,8 +31,8 @@ logOf c (kind ∷ place ∷ value ∷ rest) =
     let o = groupOf c kind place value in
     entryOf o ++ logOf (o .next) rest
 
--- the trace and the length of the log, which has to have eight bytes for each group
+-- the trace and the length of the log, which has to have eight bytes for each group: 0 for a trace that was run, else 21
 unfoldable pub traceCall : List ℕ → ℕ → TraceCall
 traceCall trace logLength =
-    if badTrace trace or ltb logLength (8 * (length trace / 3)) then record { accepted = false; logged = [] }
-    else record { accepted = true; logged = logOf fresh trace }
+    if badTrace trace or ltb logLength (8 * (length trace / 3)) then record { answer = 21; logged = [] }
+    else record { answer = 0; logged = logOf fresh trace }

@@ -1,17 +1,21 @@
 // The job that a call asks for.
+use crate::report::put_report;
 use answer::ending::Ending;
+use controller::record::Controller;
 use driver::job::run_job;
 use driver::result::JobResult;
-use requests::jobs::fresh_enabled;
 use requests::jobs::job_for;
 ghost use mathlib.Core.Path.{_≡_};
+ghost use Prim.Native.Nat.{_≤_};
 ghost use lib.ListN.{length};
 ghost use Rattle.driver.specs.Run.{resultOf};
 ghost use Rattle.notation.specs.Overlay.{laid};
 ghost use Rattle.perlovasta.specs.Job.{requestReport};
+ghost use Rattle.perlovasta.specs.ReportBytes.{reportOfJob};
 
 // Runs it; of another kind it is answered 21.
-pub(crate) fn run_request(
+fn run_request(
+    c: Controller,
     kind: u8,
     address: u8,
     n: u8,
@@ -20,17 +24,16 @@ pub(crate) fn run_request(
     out: &mut [u8],
     script: &[u8],
 ) -> JobResult
-    ensures result { λ r. ⌜ resultOf r ≡ (requestReport kind address n (now (payload .entry)) (length (now (destination .entry))) (length (now (out .entry))) (now (script .entry))) .result ⌝ }
-    ensures handed { λ _. ⌜ now (destination .exit) ≡ laid ((requestReport kind address n (now (payload .entry)) (length (now (destination .entry))) (length (now (out .entry))) (now (script .entry))) .handed) (now (destination .entry)) ⌝ }
-    ensures sent { λ _. ⌜ now (out .exit) ≡ laid ((requestReport kind address n (now (payload .entry)) (length (now (destination .entry))) (length (now (out .entry))) (now (script .entry))) .sent) (now (out .entry)) ⌝ }
-    ensures number { λ r. ⌜ r .sent ≡ length ((requestReport kind address n (now (payload .entry)) (length (now (destination .entry))) (length (now (out .entry))) (now (script .entry))) .sent) ⌝ }
+    ensures result { λ r. ⌜ resultOf r ≡ (requestReport c kind address n (now (payload .entry)) (length (now (destination .entry))) (length (now (out .entry))) (now (script .entry))) .result ⌝ }
+    ensures handed { λ _. ⌜ now (destination .exit) ≡ laid ((requestReport c kind address n (now (payload .entry)) (length (now (destination .entry))) (length (now (out .entry))) (now (script .entry))) .handed) (now (destination .entry)) ⌝ }
+    ensures sent { λ _. ⌜ now (out .exit) ≡ laid ((requestReport c kind address n (now (payload .entry)) (length (now (destination .entry))) (length (now (out .entry))) (now (script .entry))) .sent) (now (out .entry)) ⌝ }
+    ensures number { λ r. ⌜ r .sent ≡ length ((requestReport c kind address n (now (payload .entry)) (length (now (destination .entry))) (length (now (out .entry))) (now (script .entry))) .sent) ⌝ }
 {
-    let controller = fresh_enabled();
     let strange = 1 < kind;
     if strange {
         let ending = Ending::Malformed;
         return JobResult {
-            controller,
+            controller: c,
             ending,
             count: 0,
             events: 0,
@@ -38,5 +41,28 @@ pub(crate) fn run_request(
         };
     }
     let job = job_for(kind, address, n);
-    run_job(controller, job, payload, destination, out, script)
+    run_job(c, job, payload, destination, out, script)
+}
+
+// Runs it and reports.
+pub(crate) fn run_reported(
+    c: Controller,
+    kind: u8,
+    address: u8,
+    n: u8,
+    payload: &[u8],
+    destination: &mut [u8],
+    out: &mut [u8],
+    script: &[u8],
+    report: &mut [u8],
+) -> JobResult
+    requires { ⌜ (12 ≤ length (now report)) × (length (c .buffer) ≡ 68) ⌝ }
+    ensures result { λ r. ⌜ resultOf r ≡ (requestReport c kind address n (now (payload .entry)) (length (now (destination .entry))) (length (now (out .entry))) (now (script .entry))) .result ⌝ }
+    ensures handed { λ _. ⌜ now (destination .exit) ≡ laid ((requestReport c kind address n (now (payload .entry)) (length (now (destination .entry))) (length (now (out .entry))) (now (script .entry))) .handed) (now (destination .entry)) ⌝ }
+    ensures sent { λ _. ⌜ now (out .exit) ≡ laid ((requestReport c kind address n (now (payload .entry)) (length (now (destination .entry))) (length (now (out .entry))) (now (script .entry))) .sent) (now (out .entry)) ⌝ }
+    ensures told { λ _. ⌜ now (report .exit) ≡ laid (reportOfJob (requestReport c kind address n (now (payload .entry)) (length (now (destination .entry))) (length (now (out .entry))) (now (script .entry)))) (now (report .entry)) ⌝ }
+{
+    let result = run_request(c, kind, address, n, payload, destination, out, script);
+    put_report(report, result);
+    result
 }

@@ -1,4 +1,5 @@
-// The library for C and Rust: one job, and one trace, on a controller of its own. Its two functions are in `entry`.
+// The library for C and Rust. `entry` has a job and a trace on a controller of their own, `chip` a virtual chip that lasts.
+mod chip;
 mod entry;
 mod job;
 mod log;

@@ -14,6 +14,7 @@ use Rattle.controller.specs.declared.record.Controller.{Controller}
 use Rattle.driver.specs.Run.{run, handsUp, reports, declines, jobOf}
 use Rattle.notation.proofs.Cases.{and-right, split}
 use Rattle.notation.specs.Choice.{_and_}
+use Rattle.notation.proofs.Laid.{laid-whole}
 use Rattle.notation.specs.Overlay.{laid}
 use Rattle.runs.proofs.Facts.{facts}
 use Rattle.runs.proofs.Invariant.{limit}
@@ -73,17 +74,7 @@ always-fits job payload room places script c l =
     let no = declined job payload room places script c l in
     split P _ _ _ (λ _. no 21) (λ m. split P _ _ _ (λ r. worked job payload room places script c l m r) (λ _. no 22))
 
--- bytes that fit are laid whole: the lent buffer begins with them, and its rest stays
-pub laid-whole : (bytes lent : List ℕ) → length bytes ≤ length lent → laid bytes lent ≡ bytes ++ drop (length bytes) lent
-unfolding laid
-laid-whole [] lent h = refl
-laid-whole (x ∷ xs) [] h = absurd (never (length xs) h)
-  where
-    never : (n : ℕ) → suc n ≤ 0 → ⊥
-    never n e = omega (arith, e)
-laid-whole (x ∷ xs) (y ∷ lent) h = ap {B = List ℕ} (λ (l : List ℕ). x ∷ l) (laid-whole xs lent (omega (arith, h)))
-
--- so the lent buffer's first bytes are these
+-- the first bytes of a lent buffer over which bytes that fit were laid are these
 pub begins-with : (bytes lent : List ℕ) → length bytes ≤ length lent → take (length bytes) (laid bytes lent) ≡ bytes
 begins-with bytes lent h =
     ap (take (length bytes)) (laid-whole bytes lent h) ∙ take-append-seam bytes (drop (length bytes) lent)

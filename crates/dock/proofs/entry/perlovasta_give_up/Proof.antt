@@ -6,7 +6,7 @@ use borrow.Author.Needs.{needs}
 use borrow.Author.Tests.{ltb-false}
 use lib.ListN.{length, take, drop}
 use denote.Ref.{now}
-use Rattle.dock.proofs.Laid.{laid-same, part-length}
+use Rattle.notation.proofs.Laid.{laid-same, part-length}
 use Rattle.dock.proofs.Told.{not-done, told-kept}
 use Rattle.dock.specs.Calls.{tooShort, giveUpCall}
 use Rattle.dock.specs.StateBytes.{headBytes, portOf}

@@ -9,7 +9,7 @@ use borrow.Author.Tests.{ltb-false}
 use lib.ListN.{length, take, drop, set}
 use denote.Ref.{now}
 use Rattle.dock.proofs.Fixed.{FixedBytes, fixed-marked, fixed-before}
-use Rattle.dock.proofs.Laid.{part-length, set-none}
+use Rattle.notation.proofs.Laid.{part-length, set-none}
 use Rattle.dock.proofs.Told.{not-done, told-kept}
 use Rattle.dock.specs.Calls.{tooShort, nextCall}
 use Rattle.dock.specs.StateBytes.{headBytes, marked, standOf, portOf}

@@ -8,7 +8,7 @@ use borrow.Author.Tests.{ltb-false}
 use lib.ListN.{length, take, drop}
 use denote.Ref.{now}
 use lib.Seq.{take-length}
-use Rattle.dock.proofs.Laid.{laidAt-length}
+use Rattle.notation.proofs.Laid.{laidAt-length}
 use Rattle.dock.proofs.Padded.{padded-length}
 use Rattle.dock.proofs.Told.{not-done, told-anew}
 use Rattle.dock.specs.Calls.{tooShort, recoverCall}

@@ -4,7 +4,7 @@ use Prim.Native.Nat.{_+_}
 use native.Mathlib.Omega.{arith}
 use borrow.Author.Needs.{needs}
 use denote.Ref.{now}
-use Rattle.dock.proofs.Laid.{set-in, set-none}
+use Rattle.notation.proofs.Laid.{set-in, set-none}
 use Rattle.dock.proofs.state.keep.Statement.{statement}
 use Rattle.dock.proofs.state.keep.Tie as tie
 

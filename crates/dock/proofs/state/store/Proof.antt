@@ -5,7 +5,7 @@ use borrow.Author.Needs.{needs}
 use lib.ListN.{length-set}
 use denote.Ref.{now}
 use Rattle.dock.proofs.Fixed.{fixed-stored}
-use Rattle.dock.proofs.Laid.{laid-over}
+use Rattle.notation.proofs.Laid.{laid-over}
 use Rattle.dock.specs.StateBytes.{headBytes}
 use Rattle.dock.proofs.state.store.Statement.{statement}
 use Rattle.dock.proofs.state.store.Tie as tie

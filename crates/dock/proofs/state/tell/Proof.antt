@@ -6,7 +6,7 @@ use native.Mathlib.Omega.{arith}
 use borrow.Author.Needs.{needs}
 use lib.ListN.{take, drop}
 use denote.Ref.{now}
-use Rattle.dock.proofs.Laid.{after-laid}
+use Rattle.notation.proofs.Laid.{after-laid}
 use Rattle.dock.specs.StateBytes.{headBytes}
 use Rattle.port.specs.Ask.{askNumber}
 use Rattle.port.specs.Hear.{asks}

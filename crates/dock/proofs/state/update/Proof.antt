@@ -8,7 +8,7 @@ use borrow.Author.Tests.{eqb-true}
 use lib.ListN.{length-set}
 use denote.Ref.{now}
 use Rattle.address.specs.Number.{bitOf}
-use Rattle.dock.proofs.Laid.{laid-but}
+use Rattle.dock.proofs.Fixed.{laid-but}
 use Rattle.dock.specs.StateBytes.{bit, headBytes, marked}
 use Rattle.notation.proofs.Cases.{and-left, and-right}
 use Rattle.notation.specs.Overlay.{laid}

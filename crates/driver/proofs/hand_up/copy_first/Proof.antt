@@ -7,7 +7,7 @@ use borrow.Author.Needs.{needs}
 use lib.ListN.{length, take, drop, length-set, getD}
 use Rattle.notation.specs.Overlay.{laid, laidAt}
 use Rattle.notation.proofs.Overlay.{at-start, none, past-end, one-more}
-use Rattle.driver.proofs.Lists.{take-one, take-done}
+use Rattle.notation.proofs.Lists.{take-one, take-done}
 use Rattle.driver.proofs.hand_up.copy_first.Statement.{statement}
 use Rattle.driver.proofs.hand_up.copy_first.Tie as tie
 

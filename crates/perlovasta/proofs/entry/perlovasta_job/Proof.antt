@@ -1,73 +1,48 @@
--- `perlovasta_job` is `jobCall`: what is known at each return settles its test, and `run_request` and `put_report` promise the rest.
-use mathlib.Core.Bool.{false}
-use mathlib.Core.List.{[]}
-use mathlib.Core.Path.{_≡_, sym, ap, _∙_}
-use Prim.Native.Nat.{ℕ}
-use native.Mathlib.Omega.{arith}
+-- `perlovasta_job` is `jobCall`: what is known at each return settles its test, and `run_reported` promises the rest.
+use mathlib.Core.Path.{ap, _∙_}
 use borrow.Author.Needs.{needs}
 use borrow.Author.Tests.{ltb-false}
 use lib.ListN.{length}
 use denote.Ref.{now}
-use Rattle.driver.specs.Run.{Result}
-use Rattle.notation.proofs.Cases.{if-true, if-false}
+use Rattle.controller.specs.declared.record.Controller.{Controller}
+use Rattle.driver.specs.Run.{Report, resultOf}
 use Rattle.notation.specs.Overlay.{laid}
-use Rattle.perlovasta.specs.Job.{JobCall, requestReport, tells, jobCall}
-use Rattle.perlovasta.specs.ReportBytes.{reportBytes}
-use Rattle.perlovasta.proofs.Few.{few-sent}
+use Rattle.perlovasta.proofs.Answered.{short-report, reported}
+use Rattle.perlovasta.specs.Job.{requestReport}
+use Rattle.perlovasta.specs.ReportBytes.{reportOfJob}
+use Rattle.requests.proofs.FreshEnabled.{fresh-enabled-places}
+use Rattle.requests.specs.Jobs.{freshEnabled}
 use Rattle.perlovasta.proofs.entry.perlovasta_job.Statement.{statement}
 use Rattle.perlovasta.proofs.entry.perlovasta_job.Tie as tie
 
 returns : tie.Need-returns
-unfolding jobCall laid
 returns c =
     let s = c .before .before .before .before .before .before .args in
-    let destination = now (s .destination) in
-    let out = now (s .out) in
-    let report = now (s .report) in
-    let call = jobCall (s .kind) (s .address) (s .n) (now (s .payload)) (length destination) (length out) (now (s .script)) (length report) in
-    let e : call ≡ record { reported = false; handed = []; sent = []; told = [] } = if-true _ _ _ (c .if1 .taken) in (
-      sym (ap (λ (r : JobCall). r .reported) e),
-      (
-        sym (ap (λ (r : JobCall). laid (r .handed) destination) e),
-        (
-          sym (ap (λ (r : JobCall). laid (r .sent) out) e),
-          sym (ap (λ (r : JobCall). laid (r .told) report) e),
-        ),
-      ),
-    )
+    let g = short-report freshEnabled (s .kind) (s .address) (s .n) (now (s .payload)) (now (s .destination)) (now (s .out)) (now (s .script))
+    (now (s .report)) (c .if1 .taken) in
+    (g .0, (g .1, (g .2, g .3)))
 
-put-report-requires : tie.Need-put-report-requires
-put-report-requires c κs =
-    let s = c .before .before .before .before .before .before .before .before .before .before .before .before .before .before .args in
-    let number = c .before .before .before .before .before .run-request .ensures .1 .1 .1 in
-    let few = few-sent (s .kind) (s .address) (s .n) (now (s .payload)) (length (now (s .destination))) (length (now (s .out))) (now (s .script)) in
-    (ltb-false (length (now (s .report))) 12 (c .before .before .before .before .before .before .before .before .if1 .left), omega (arith, number, few))
+run-reported-requires : tie.Need-run-reported-requires
+run-reported-requires c κs =
+    let report = now (c .before .before .before .before .before .before .before .before .before .before .args .report) in
+    (ltb-false (length report) 12 (c .before .before .before .before .if1 .left), ap (λ (d : Controller). length (d .buffer)) (c .before .before .before .fresh-enabled .ensures) ∙ fresh-enabled-places)
 
 returns-2 : tie.Need-returns-2
-unfolding jobCall tells
+unfolding resultOf
 returns-2 c =
-    let s = c .before .before .before .before .before .before .before .before .before .before .before .before .before .before .before
-    .before .before .args in
+    let s = c .before .before .before .before .before .before .before .before .before .before .before .before .before .before .before .before .before .before .args in
     let destination = now (s .destination) in
     let out = now (s .out) in
     let report = now (s .report) in
-    let call = jobCall (s .kind) (s .address) (s .n) (now (s .payload)) (length destination) (length out) (now (s .script)) (length report) in
-    let request = requestReport (s .kind) (s .address) (s .n) (now (s .payload)) (length destination) (length out) (now (s .script)) in
-    let e : call ≡ tells request = if-false _ _ _ (c .before .before .before .before .before .before .before .before .before .before
-    .before .if1 .left) in
-    let ran = c .before .before .before .before .before .before .before .before .run-request in (
-      sym (ap (λ (r : JobCall). r .reported) e),
-      (
-        ran .ensures .1 .0 ∙ sym (ap (λ (r : JobCall). laid (r .handed) destination) e),
-        (
-          ran .ensures .1 .1 .0 ∙ sym (ap (λ (r : JobCall). laid (r .sent) out) e),
-          c .before .before .put-report .ensures
-              ∙ ap (λ (r : Result). laid (reportBytes r (ran .result .sent)) report) (ran .ensures .0)
-              ∙ ap (λ (k : ℕ). laid (reportBytes (request .result) k) report) (ran .ensures .1 .1 .1)
-              ∙ sym (ap (λ (r : JobCall). laid (r .told) report) e),
-        ),
-      ),
-    )
+    let ran = c .before .before .before .before .before .before .before .run-reported .ensures in
+    let asked : Controller → Report = λ d. requestReport d (s .kind) (s .address) (s .n) (now (s .payload)) (length destination) (length out) (now (s .script)) in
+    let same = ap asked (c .before .before .before .before .before .before .before .before .before .before .before .fresh-enabled .ensures) in
+    let g = reported freshEnabled (s .kind) (s .address) (s .n) (now (s .payload)) destination out (now (s .script)) report _
+    (resultOf (c .before .before .before .before .before .before .before .run-reported .result)) _ _ _
+    (c .before .before .before .before .before .before .before .before .before .before .before .before .if1 .left) (c .number .ensures) (ran .0 ∙ ap (λ (r : Report). r .result) same)
+    (ran .1 .0 ∙ ap (λ (r : Report). laid (r .handed) destination) same) (ran .1 .1 .0 ∙ ap (λ (r : Report). laid (r .sent) out) same)
+    (ran .1 .1 .1 ∙ ap (λ (r : Report). laid (reportOfJob r) report) same) in
+    (g .0, (g .1, (g .2, g .3)))
 
 pub perlovasta-job-spec : {M : Type 1} → statement M
 perlovasta-job-spec =
@@ -75,7 +50,8 @@ perlovasta-job-spec =
     (tie.spec
     returns
     (λ c κs. search needs)
-    put-report-requires
+    run-reported-requires
+    (λ c κs. search needs)
     (λ c. search needs)
     (λ c. search needs)
     (λ c. search needs)

@@ -1,5 +1,5 @@
 -- `perlovasta_trace` is `traceCall`: what is known at each return settles its tests, and `put_log` promises the rest.
-use mathlib.Core.Bool.{true, false}
+use mathlib.Core.Bool.{true}
 use mathlib.Core.List.{List, []}
 use mathlib.Core.Path.{_≡_, sym, ap, _∙_}
 use Prim.Native.Nat.{ℕ, _*_, _/_}
@@ -22,11 +22,11 @@ use Rattle.perlovasta.proofs.entry.perlovasta_trace.Tie as tie
 
 -- nothing is done
 declined : (trace log : List ℕ) → badTrace trace or ltb (length log) (8 * (length trace / 3)) ≡ true →
-    (false ≡ (traceCall trace (length log)) .accepted) × (log ≡ laid ((traceCall trace (length log)) .logged) log)
+    (_≡_ {A = ℕ} 21 ((traceCall trace (length log)) .answer)) × (log ≡ laid ((traceCall trace (length log)) .logged) log)
 unfolding traceCall laid
 declined trace log bad =
-    let e : traceCall trace (length log) ≡ record { accepted = false; logged = [] } = if-true _ _ _ bad in
-    (sym (ap (λ (r : TraceCall). r .accepted) e), sym (ap (λ (r : TraceCall). laid (r .logged) log) e))
+    let e : traceCall trace (length log) ≡ record { answer = 21; logged = [] } = if-true _ _ _ bad in
+    (sym (ap (λ (r : TraceCall). r .answer) e), sym (ap (λ (r : TraceCall). laid (r .logged) log) e))
 
 returns : tie.Need-returns
 returns c = declined _ _ (or-left _ _ (sym (c .before .is-bad .ensures) ∙ c .if1 .taken))
@@ -54,8 +54,8 @@ returns-3 c =
     let log = now (s .args .log) in
     let fine = sym (t .before .before .is-bad .ensures) ∙ t .before .if1 .left in
     let room = same-room (length log) (length trace / 3) ∙ t .if2 .left in
-    let e : traceCall trace (length log) ≡ record { accepted = true; logged = logOf fresh trace } = if-false _ _ _ (or-false _ _ fine room) in (
-      sym (ap (λ (r : TraceCall). r .accepted) e),
+    let e : traceCall trace (length log) ≡ record { answer = 0; logged = logOf fresh trace } = if-false _ _ _ (or-false _ _ fine room) in (
+      sym (ap (λ (r : TraceCall). r .answer) e),
       c .before .before .put-log .ensures
           ∙ ap (λ (d : Controller). laid (logOf d trace) log) (c .before .before .before .before .fresh .ensures)
           ∙ sym (ap (λ (r : TraceCall). laid (r .logged) log) e),

@@ -3,11 +3,9 @@ use mathlib.Core.Path.{_≡_, sym, ap, _∙_}
 use borrow.Author.Needs.{needs}
 use lib.ListN.{length}
 use denote.Ref.{now}
-use Rattle.controller.specs.declared.record.Controller.{Controller}
 use Rattle.driver.specs.Run.{Report, resultOf, declines, jobOf}
 use Rattle.notation.proofs.Cases.{if-true, if-false}
 use Rattle.notation.specs.Overlay.{laid}
-use Rattle.requests.specs.Jobs.{freshEnabled, jobFor}
 use Rattle.service.specs.declared.job.Job.{Job}
 use Rattle.perlovasta.specs.Job.{requestReport}
 use Rattle.perlovasta.proofs.job.run_request.Statement.{statement}
@@ -16,12 +14,12 @@ use Rattle.perlovasta.proofs.job.run_request.Tie as tie
 returns : tie.Need-returns
 unfolding requestReport declines resultOf laid
 returns c =
-    let s = c .before .before .before .before .before .before .args in
+    let s = c .before .before .before .before .before .args in
     let destination = now (s .destination) in
     let out = now (s .out) in
-    let report = requestReport (s .kind) (s .address) (s .n) (now (s .payload)) (length destination) (length out) (now (s .script)) in
-    let e : report ≡ declines freshEnabled 21 = if-true _ _ _ (c .if1 .taken) in (
-      ap (λ (d : Controller). (declines d 21) .result) (c .before .fresh-enabled .ensures) ∙ sym (ap (λ (r : Report). r .result) e),
+    let report = requestReport (s .c) (s .kind) (s .address) (s .n) (now (s .payload)) (length destination) (length out) (now (s .script)) in
+    let e : report ≡ declines (s .c) 21 = if-true _ _ _ (c .if1 .taken) in (
+      sym (ap (λ (r : Report). r .result) e),
       (
         sym (ap (λ (r : Report). laid (r .handed) destination) e),
         (sym (ap (λ (r : Report). laid (r .sent) out) e), sym (ap (λ (r : Report). length (r .sent)) e)),
@@ -31,19 +29,16 @@ returns c =
 returns-2 : tie.Need-returns-2
 unfolding requestReport
 returns-2 c =
-    let s = c .before .before .before .before .before .before .before .before .before .before .before .before .before .before .args in
+    let s = c .before .before .before .before .before .before .before .before .before .before .before .before .before .args in
     let payload = now (s .payload) in
     let destination = now (s .destination) in
     let out = now (s .out) in
     let script = now (s .script) in
-    let report = requestReport (s .kind) (s .address) (s .n) payload (length destination) (length out) script in
-    let asked = jobFor (s .kind) (s .address) (s .n) in
+    let report = requestReport (s .c) (s .kind) (s .address) (s .n) payload (length destination) (length out) script in
     let ran = c .before .before .before .before .run-job in
     let job = c .before .before .before .before .before .before .before .job-for in
-    let start = c .before .before .before .before .before .before .before .before .before .fresh-enabled in
-    let e : jobOf (job .result) payload (length destination) (length out) script (start .result) ≡ report =
-    ap (λ (j : Job). jobOf j payload (length destination) (length out) script (start .result)) (job .ensures)
-    ∙ ap (λ (d : Controller). jobOf asked payload (length destination) (length out) script d) (start .ensures)
+    let e : jobOf (job .result) payload (length destination) (length out) script (s .c) ≡ report =
+    ap (λ (j : Job). jobOf j payload (length destination) (length out) script (s .c)) (job .ensures)
     ∙ sym (if-false _ _ _ (c .before .before .before .before .before .before .before .before .if1 .left)) in (
       ran .ensures .0 ∙ ap (λ (r : Report). r .result) e,
       (
@@ -59,7 +54,6 @@ pub run-request-spec : {M : Type 1} → statement M
 run-request-spec =
     tie.close
     (tie.spec
-    (λ c κs. search needs)
     returns
     (λ c κs. search needs)
     (λ c κs. search needs)

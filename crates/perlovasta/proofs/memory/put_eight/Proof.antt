@@ -5,7 +5,7 @@ use Prim.Native.Nat.{ℕ, _+_, _-_, _≤_}
 use native.Mathlib.Omega.{arith}
 use borrow.Author.Needs.{needs}
 use lib.ListN.{length, drop, set, getD, length-set, drop-of-length-le}
-use Rattle.driver.proofs.Lists.{drop-one}
+use Rattle.notation.proofs.Lists.{drop-one}
 use Rattle.notation.proofs.Overlay.{none, one-more}
 use Rattle.notation.specs.Overlay.{laidAt}
 use Rattle.perlovasta.proofs.memory.put_eight.Statement.{statement}

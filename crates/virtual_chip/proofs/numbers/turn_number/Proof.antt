@@ -1,16 +1,8 @@
--- `number_turn` is its definition: each arm names the turn.
-use native.Mathlib.Omega.{arith}
+-- `turn_number` is its definition: each arm names the turn.
 use borrow.Author.Needs.{needs}
-use Rattle.perlovasta.specs.Log.{turnNumber}
-use Rattle.perlovasta.proofs.Numbers.{edge-small, called-small}
-use Rattle.perlovasta.proofs.log.number_turn.Statement.{statement}
-use Rattle.perlovasta.proofs.log.number_turn.Tie as tie
-
-add-result : tie.Need-add-result
-add-result c = omega (arith, edge-small _ _ _ (c .mark-edge .ensures))
-
-add-result-2 : tie.Need-add-result-2
-add-result-2 c = omega (arith, called-small _ _ (c .mark-called .ensures))
+use Rattle.virtual_chip.specs.Numbers.{turnNumber}
+use Rattle.virtual_chip.proofs.numbers.turn_number.Statement.{statement}
+use Rattle.virtual_chip.proofs.numbers.turn_number.Tie as tie
 
 returns : tie.Need-returns
 unfolding turnNumber
@@ -18,7 +10,7 @@ returns c = rw (c .enum-told .given .1)
 
 returns-2 : tie.Need-returns-2
 unfolding turnNumber
-returns-2 c = rw (c .mark-edge .ensures, c .before .before .turn .given .1)
+returns-2 c = rw (c .host-number .ensures, c .before .before .turn .given .1)
 
 returns-3 : tie.Need-returns-3
 unfolding turnNumber
@@ -46,7 +38,7 @@ returns-8 c = rw (c .enum-told7 .given .1)
 
 returns-9 : tie.Need-returns-9
 unfolding turnNumber
-returns-9 c = rw (c .mark-called .ensures, c .before .before .turn2 .given .1)
+returns-9 c = rw (c .slave-number .ensures, c .before .before .turn2 .given .1)
 
 returns-10 : tie.Need-returns-10
 unfolding turnNumber
@@ -60,14 +52,13 @@ returns-12 : tie.Need-returns-12
 unfolding turnNumber
 returns-12 c = rw (c .enum-told10 .given .1)
 
-pub number-turn-spec : {M : Type 1} → statement M
-number-turn-spec =
+pub turn-number-spec : {M : Type 1} → statement M
+turn-number-spec =
     tie.close
     (tie.spec
     (λ c. search needs)
     (λ c. search needs)
     (λ c κs. search needs)
-    add-result
     (λ c. search needs)
     (λ c. search needs)
     (λ c. search needs)
@@ -76,7 +67,6 @@ number-turn-spec =
     (λ c. search needs)
     (λ c. search needs)
     (λ c κs. search needs)
-    add-result-2
     (λ c. search needs)
     (λ c. search needs)
     (λ c. search needs)

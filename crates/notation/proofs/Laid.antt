@@ -1,11 +1,11 @@
--- Bytes laid over a lent state, part by part. Assumes nothing.
+-- Bytes laid over lent memory, part by part. Assumes nothing.
 use mathlib.Core.List.{List, [], _∷_, _++_}
 use mathlib.Core.Path.{_≡_, refl, sym, ap, _∙_}
 use Prim.Native.Nat.{ℕ, zero, suc, _+_, _≤_, _<_}
 use native.Mathlib.Omega.{arith}
 use lib.ListN.{length, take, drop, set, getD, length-drop}
-use lib.Seq.{sets, sets-eq, set-getD, set-out, getD-set-other, length-take-le}
+use lib.Seq.{sets, sets-eq, set-out, length-take-le}
 use Rattle.notation.specs.Overlay.{laid, laidAt}
 
 nowhere : (k : ℕ) (xs : List ℕ) → laidAt k xs [] ≡ []
 unfolding laidAt laid
@@ -107,34 +107,26 @@ set-in (suc k) j i n x [] e h l = absurd (omega (arith, l))
 set-in (suc k) j i zero x (y ∷ m) e h l = absurd (omega (arith, e))
 set-in (suc k) j i (suc n) x (y ∷ m) e h l = ap (λ (r : List ℕ). y ∷ r) (set-in k j i n x m (omega (arith, e)) h (omega (arith, l)))
 
-pub over : (xs m : List ℕ) → length xs ≤ length m → laid xs m ≡ xs ++ drop (length xs) m
+-- bytes that fit are laid whole: the lent buffer begins with them, and its rest stays
+pub laid-whole : (xs m : List ℕ) → length xs ≤ length m → laid xs m ≡ xs ++ drop (length xs) m
 unfolding laid
-over [] m h = refl
-over (x ∷ xs) [] h = absurd (omega (arith, h))
-over (x ∷ xs) (y ∷ m) h = ap (λ (l : List ℕ). x ∷ l) (over xs m (omega (arith, h)))
+laid-whole [] m h = refl
+laid-whole (x ∷ xs) [] h = absurd (omega (arith, h))
+laid-whole (x ∷ xs) (y ∷ m) h = ap (λ (l : List ℕ). x ∷ l) (laid-whole xs m (omega (arith, h)))
+
+-- as many bytes as there are places
+pub laid-all : (xs m : List ℕ) → length xs ≡ length m → laid xs m ≡ xs
+unfolding laid
+laid-all [] [] e = refl
+laid-all [] (y ∷ m) e = absurd (omega (arith, e))
+laid-all (x ∷ xs) [] e = absurd (omega (arith, e))
+laid-all (x ∷ xs) (y ∷ m) e = ap (λ (l : List ℕ). x ∷ l) (laid-all xs m (omega (arith, e)))
 
 -- bytes stored one after the other from the start
 pub laid-sets : (xs m : List ℕ) → length xs ≤ length m → laid xs m ≡ sets m 0 xs
 laid-sets xs m h =
     let none : 0 + length xs ≡ length xs = omega arith in
-    over xs m h ∙ ap (λ (k : ℕ). xs ++ drop k m) (sym none) ∙ sym (sets-eq xs m 0 (omega (arith, h)))
-
--- what stands there is stored
-there : (l : List ℕ) (i x : ℕ) → getD l i 0 ≡ x → set l i x ≡ l
-there l i x e = ap (set l i) (sym e) ∙ set-getD l i 0
-
--- bytes 2, 3, and from 6 on are stored, and the others stand there
-pub laid-but : (a b d e f g : ℕ) (xs m : List ℕ) → getD m 0 0 ≡ a → getD m 1 0 ≡ b → getD m 4 0 ≡ f → getD m 5 0 ≡ g → 6 + length xs ≤ length m →
-    sets (set (set m 2 d) 3 e) 6 xs ≡ laid (a ∷ b ∷ d ∷ e ∷ f ∷ g ∷ xs) m
-laid-but a b d e f g xs m at0 at1 at4 at5 h =
-    let l = set (set m 2 d) 3 e in
-    let same : (i : ℕ) → 3 < i → getD l i 0 ≡ getD m i 0 =
-    λ i more. getD-set-other (set m 2 d) 3 i e 0 (λ is. omega (arith, is, more)) ∙ getD-set-other m 2 i d 0 (λ is. omega (arith, is, more)) in
-    sym (laid-sets (a ∷ b ∷ d ∷ e ∷ f ∷ g ∷ xs) m (omega (arith, h))
-    ∙ ap (λ (k : List ℕ). sets (set (set (set (set (set k 1 b) 2 d) 3 e) 4 f) 5 g) 6 xs) (there m 0 a at0)
-    ∙ ap (λ (k : List ℕ). sets (set (set (set (set k 2 d) 3 e) 4 f) 5 g) 6 xs) (there m 1 b at1)
-    ∙ ap (λ (k : List ℕ). sets (set k 5 g) 6 xs) (there l 4 f (same 4 (omega arith) ∙ at4))
-    ∙ ap (λ (k : List ℕ). sets k 6 xs) (there l 5 g (same 5 (omega arith) ∙ at5)))
+    laid-whole xs m h ∙ ap (λ (k : ℕ). xs ++ drop k m) (sym none) ∙ sym (sets-eq xs m 0 (omega (arith, h)))
 
 -- 68 places from one on
 pub part-length : (k : ℕ) (m : List ℕ) → k + 68 ≤ length m → length (take 68 (drop k m)) ≡ 68

@@ -1,0 +1,5 @@
+-- A controller in lent bytes.
+pub mod Numbers
+pub mod RecordBytes
+pub mod Calls
+pub mod ReadBack
