@@ -2,3 +2,5 @@
 pub mod Joined
 pub mod Bytes
 pub mod Replied
+pub mod Places
+pub mod ReadBack

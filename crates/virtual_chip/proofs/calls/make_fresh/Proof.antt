@@ -1,6 +1,6 @@
 -- `make_fresh` is `freshCall`: what is known at each return settles its test.
 use mathlib.Core.List.{List}
-use mathlib.Core.Path.{refl, sym, ap, _∙_}
+use mathlib.Core.Path.{sym, ap, _∙_}
 use Prim.Native.Nat.{ℕ}
 use borrow.Author.Needs.{needs}
 use lib.ListN.{length}
@@ -10,7 +10,7 @@ use Rattle.controller.specs.declared.record.Controller.{Controller}
 use Rattle.notation.proofs.Cases.{if-true, if-false}
 use Rattle.notation.specs.Overlay.{laid}
 use Rattle.virtual_chip.specs.Calls.{ChipCall, refusing, freshCall}
-use Rattle.virtual_chip.specs.RecordBytes.{bytesOf, stored}
+use Rattle.virtual_chip.specs.RecordBytes.{stored}
 use Rattle.virtual_chip.proofs.calls.make_fresh.Statement.{statement}
 use Rattle.virtual_chip.proofs.calls.make_fresh.Tie as tie
 
