@@ -14,8 +14,8 @@ pub fn make_fresh(memory: &mut [u8]) -> u8
     ensures answer { λ r. ⌜ r ≡ freshCall (now (memory .entry)) .answer ⌝ }
     ensures bytes { λ _. ⌜ now (memory .exit) ≡ laid (freshCall (now (memory .entry)) .bytes) (now (memory .entry)) ⌝ }
 {
-    let short = memory.len() < 88;
-    if short {
+    let no_room = memory.len() < 88;
+    if no_room {
         return 10;
     }
     store(memory, Controller::fresh());

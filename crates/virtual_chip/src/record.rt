@@ -140,8 +140,8 @@ fn store_head(memory: &mut [u8], c: Controller)
 pub fn store(memory: &mut [u8], c: Controller)
     ensures { λ _. ⌜ now (memory .exit) ≡ laid (stored (length (now (memory .entry))) c) (now (memory .entry)) ⌝ }
 {
-    let short = memory.len() < 88;
-    if short {
+    let no_room = memory.len() < 88;
+    if no_room {
         return;
     }
     let buffer = c.buffer;
