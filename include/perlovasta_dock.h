@@ -1,9 +1,9 @@
 /*
  * Perlovasta in a dock: the proved driver for a PCA9665, asked for one register
  * access at a time. It makes none itself: the board does what a step says, and
- * hands the value that was read to the next step.
+ * hands the value that was read to the next step. libdock.a has it.
  *
- *     static perlovasta_step run(perlovasta_step step) {
+ *     PERLOVASTA_LOOK static perlovasta_step run(perlovasta_step step) {
  *         start the clock;
  *         while (perlovasta_kind(step) != PERLOVASTA_OVER) {
  *             uint8_t value = 0;
@@ -22,11 +22,15 @@
  *
  *     uint8_t state[PERLOVASTA_STATE] = {0};
  *     step = run(perlovasta_recover(state, sizeof state, none, 0));
- *     .. then for each badge ..
- *     step = run(perlovasta_start(state, sizeof state, 1, 0x50, 8, none, 0));
- *     if (perlovasta_answer(step) == 0 &&
- *         perlovasta_take(state, sizeof state, badge, sizeof badge) == 0)
- *         .. the 8 bytes are those that were read ..
+ *     .. if it is answered 0, then for each badge ..
+ *     step = run(perlovasta_start(state, sizeof state, PERLOVASTA_READ, 0x50, 8, none, 0));
+ *     PERLOVASTA_IF_DONE(badge, answer, perlovasta_take_read(state, sizeof state, step)) {
+ *         .. the 8 bytes of badge.bytes are those that were read ..
+ *     }
+ *     if (answer != PERLOVASTA_DONE)
+ *         .. there is no badge ..
+ *
+ * examples/c/dock.c is such a loop, to be compiled and run.
  *
  * One state is for one chip, and one chip for one state: never copy a state,
  * never restore an old one, fill it with zeros once before the first call. One
@@ -34,26 +38,18 @@
  * end early, with nothing come: the port looks, and waits on. It must end now
  * and then, since a chip interrupts neither at own STOP nor at a reset.
  *
- * It keeps nothing but the state, needs no heap, calls nothing outside itself, and
- * is built for x86-64 Linux here. A state of under 148 bytes is answered with 21
- * by every function, and nothing is written. Never more than 72 accesses come in a
- * row.
- *
- * For every pointer: it is never NULL, also where its length is 0 (`none` above
- * is a pointer to any byte); the bytes it lends are as many as its length says;
- * and no two of the slices of one call overlap.
+ * perlovasta_terms.h says what both libraries want of a caller, and which flags to
+ * compile with (`none` above is a pointer to any byte). This one keeps nothing but
+ * the state, calls nothing outside itself, and takes at most PERLOVASTA_DOCK_STACK
+ * bytes of stack. A state of under 148 bytes is answered with 21 by every function,
+ * and nothing is written. Never more than 72 accesses come in a row.
  */
 #ifndef PERLOVASTA_DOCK_H
 #define PERLOVASTA_DOCK_H
 
-#include <stddef.h>
-#include <stdint.h>
+#include "perlovasta_terms.h"
 
-#if defined(__GNUC__) || defined(__clang__)
-#define PERLOVASTA_LOOK __attribute__((warn_unused_result))
-#else
-#define PERLOVASTA_LOOK
-#endif
+#define PERLOVASTA_DOCK_STACK 256u /* bytes at most, of one call */
 
 /* Bytes of a state. Any content is answered, and zeros are a state that is over
  * with 22 and wants a recovery first. (Bytes that begin with 50h 76h are taken
@@ -80,8 +76,7 @@ static inline unsigned perlovasta_kind(perlovasta_step step) {
     return step & 0xFFu;
 }
 
-/* Of a read or write: 0 I2CSTA and INDPTR, 1 I2CDAT, 2 the register at the
- * pointer, 3 I2CCON. */
+/* Of a read or write: which one, enum perlovasta_register_number. */
 static inline uint8_t perlovasta_register(perlovasta_step step) {
     return (uint8_t)(step >> 8);
 }
@@ -91,7 +86,7 @@ static inline uint8_t perlovasta_value(perlovasta_step step) {
     return (uint8_t)(step >> 16);
 }
 
-/* Of a step that is over: the answer, see below. */
+/* Of a step that is over: the answer, enum perlovasta_answer_number. */
 static inline uint8_t perlovasta_answer(perlovasta_step step) {
     return (uint8_t)(step >> 8);
 }
@@ -136,7 +131,7 @@ extern "C" {
  *  29  the chip was reset: ENSIO reads 0 after a wait, or I2CCON is not as it was
  *      once the bytes of a read are read back; perlovasta_recover
  */
-PERLOVASTA_LOOK perlovasta_step
+PERLOVASTA_LOOK PERLOVASTA_NO_NULL perlovasta_step
 perlovasta_start(uint8_t *state, size_t state_len, uint8_t kind, uint8_t address,
                  uint8_t n, const uint8_t *data, size_t data_len);
 
@@ -154,7 +149,7 @@ perlovasta_start(uint8_t *state, size_t state_len, uint8_t kind, uint8_t address
  * 0 says that the writes were made: nothing is read back. The job after it looks
  * at the chip first. After power-up the board waits 550 us before it.
  */
-PERLOVASTA_LOOK perlovasta_step
+PERLOVASTA_LOOK PERLOVASTA_NO_NULL perlovasta_step
 perlovasta_recover(uint8_t *state, size_t state_len, const uint8_t *settings,
                    size_t settings_len);
 
@@ -162,14 +157,14 @@ perlovasta_recover(uint8_t *state, size_t state_len, const uint8_t *settings,
  * The next step. value is what the register read of the last step gave; it is
  * not looked at after any other step. A state that is over stays so.
  */
-PERLOVASTA_LOOK perlovasta_step
+PERLOVASTA_LOOK PERLOVASTA_NO_NULL perlovasta_step
 perlovasta_next(uint8_t *state, size_t state_len, uint8_t value);
 
 /*
  * The caller's clock ran out. It is over with 27, whatever was under way, and
  * no job begins until perlovasta_recover was run to its end.
  */
-PERLOVASTA_LOOK perlovasta_step
+PERLOVASTA_LOOK PERLOVASTA_NO_NULL perlovasta_step
 perlovasta_give_up(uint8_t *state, size_t state_len);
 
 /*
@@ -181,12 +176,35 @@ perlovasta_give_up(uint8_t *state, size_t state_len);
  * can be called again: the state stays as it is, until the next start or
  * recovery. So take the bytes right after the job, and look at its answer too.
  */
-PERLOVASTA_LOOK uint8_t
+PERLOVASTA_LOOK PERLOVASTA_NO_NULL uint8_t
 perlovasta_take(const uint8_t *state, size_t state_len, uint8_t *destination,
                 size_t destination_len);
 
 #ifdef __cplusplus
 }
 #endif
+
+/*
+ * The bytes of the read that ended with this step: for PERLOVASTA_IF_DONE. It goes
+ * by the step's answer and by that of perlovasta_take, so that the bytes of an
+ * earlier read are never taken for those of a job that failed. 21 for a recovery.
+ */
+PERLOVASTA_LOOK PERLOVASTA_NO_NULL static inline perlovasta_read_result
+perlovasta_take_read(const uint8_t *state, size_t state_len, perlovasta_step over) {
+    perlovasta_read_result read = {0, 0, {0}};
+    uint8_t answer = perlovasta_answer(over), n = perlovasta_count(over);
+    if (perlovasta_kind(over) != PERLOVASTA_OVER)
+        answer = PERLOVASTA_UNFINISHED;
+    if (answer == PERLOVASTA_DONE && (n == 0 || n > PERLOVASTA_PLACES))
+        answer = PERLOVASTA_MALFORMED;
+    if (answer == PERLOVASTA_DONE)
+        answer = perlovasta_take(state, state_len, read.bytes, sizeof read.bytes);
+    return perlovasta_ended(read, answer, n);
+}
+
+/* An answer of the port in words. */
+static inline const char *perlovasta_port_words(uint8_t answer) {
+    return answer == PERLOVASTA_UNFINISHED ? "given up" : perlovasta_words(answer);
+}
 
 #endif

@@ -54,18 +54,18 @@ int main(void) {
     static const uint8_t silent[] = {0x40, 0xF8, 0x68, 0x08, 0x48, 0x48, 0x40};
     static const uint8_t settings[] = {0x04, 0xFF};
 
-    run(perlovasta_start(state, sizeof state, 1, 0x50, 3, none, 0), none);
+    run(perlovasta_start(state, sizeof state, PERLOVASTA_READ, 0x50, 3, none, 0), none);
     run(perlovasta_recover(state, sizeof state, settings, sizeof settings), none);
-    run(perlovasta_start(state, sizeof state, 1, 0x50, 3, none, 0), answered);
+    run(perlovasta_start(state, sizeof state, PERLOVASTA_READ, 0x50, 3, none, 0), answered);
     take();
-    run(perlovasta_start(state, sizeof state, 1, 0x50, 3, none, 0), reset);
+    run(perlovasta_start(state, sizeof state, PERLOVASTA_READ, 0x50, 3, none, 0), reset);
     take();
-    run(perlovasta_start(state, sizeof state, 1, 0x50, 3, none, 0), silent);
+    run(perlovasta_start(state, sizeof state, PERLOVASTA_READ, 0x50, 3, none, 0), silent);
     take();
-    run(perlovasta_start(state, sizeof state, 1, 0x50, 0, none, 0), none);
+    run(perlovasta_start(state, sizeof state, PERLOVASTA_READ, 0x50, 0, none, 0), none);
     take();
     show(perlovasta_give_up(state, sizeof state));
-    run(perlovasta_start(state, sizeof state, 1, 0x50, 3, none, 0), none);
+    run(perlovasta_start(state, sizeof state, PERLOVASTA_READ, 0x50, 3, none, 0), none);
     show(perlovasta_next(state, sizeof state - 1, 0));
     return 0;
 }

@@ -1,0 +1,15 @@
+/* The answer is kept, and nothing reads it.
+ * expected: 1 unused-variable */
+#include "perlovasta.h"
+
+int open_door(const uint8_t *script, size_t script_len);
+int open_door(const uint8_t *script, size_t script_len) {
+    const uint8_t none = 0;
+    uint8_t badge[8] = {0}, out[PERLOVASTA_OUT], report[PERLOVASTA_REPORT];
+    uint8_t answer = perlovasta_job(PERLOVASTA_READ, 0x50, 8, &none, 0, badge, sizeof badge, out, sizeof out, script, script_len, report, sizeof report);
+#ifdef RIGHT
+    if (answer != PERLOVASTA_DONE)
+        return -1;
+#endif
+    return badge[0];
+}
