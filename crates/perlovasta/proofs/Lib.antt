@@ -5,3 +5,5 @@ pub mod LogGroups
 pub mod Few
 pub mod Ways
 pub mod Answered
+pub mod JobPlaces
+pub mod ChipIsController

@@ -3,3 +3,4 @@ pub mod ReportBytes
 pub mod Job
 pub mod Log
 pub mod Trace
+pub mod ChipIsController

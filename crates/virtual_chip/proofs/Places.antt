@@ -91,16 +91,16 @@ unfolding enabled controlled
 enabling c k Unlisted = search ends
 enabling c k (Next t) = search ends
 
-event-sized : (c : Controller) (number argument : ℕ) → Sized c (eventOf c number argument)
+pub event-sized : (c : Controller) (number argument : ℕ) → Sized c (eventOf c number argument)
 unfolding eventOf eventSound ownStart otherStart otherStop ownStop addressByte addressLost dataLost illegalEdge dataHeld clockHeld idle byteOut dataOut byteIn
     dataIn received
 event-sized c number argument = search (found, overtaken, slave-in, ends) depth 40
 
-write-sized : (c : Controller) (register value : ℕ) → Sized c (writeOf c register value)
+pub write-sized : (c : Controller) (register value : ℕ) → Sized c (writeOf c register value)
 unfolding writeOf writeSound indirectAt writePointer writeData writeAtPointer writePreset writeControl writeFlags controlled
 write-sized c register value = search (enabling, ends) depth 20
 
-read-sized : (c : Controller) (register : ℕ) → Sized c (readOf c register)
+pub read-sized : (c : Controller) (register : ℕ) → Sized c (readOf c register)
 unfolding readOf readSound readData
 read-sized c register = search ends depth 12
 

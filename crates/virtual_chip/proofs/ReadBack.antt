@@ -114,7 +114,7 @@ unfolding bytesOf headBytes flagBytes registerBytes
 size c l = omega (arith, l)
 
 -- the bytes of a record, with whatever follows them
-abbrev Back : Controller → List ℕ → Type 0
+abbrev pub Back : Controller → List ℕ → Type 0
 Back c m = (isRecord m ≡ true) × (recordOf m ≡ c)
 
 whole-back : (c : Controller) (rest : List ℕ) → length (c .buffer) ≡ 68 → Back c (bytesOf c ++ rest)
@@ -142,10 +142,10 @@ kept c kind place value =
 
 -- one call: its answer, and the record in the bytes after it
 module _ (m : List ℕ) (g : Group) (there : isRecord m ≡ true) where
-  abbrev o : Outcome
+  abbrev pub o : Outcome
   o = groupOf (recordOf m) (g .kind) (g .place) (g .value)
 
-  abbrev Called : ChipCall → Type 0
+  abbrev pub Called : ChipCall → Type 0
   Called call = (call .answer ≡ packed o) × Back (o .next) (laid (call .bytes) m)
 
   replied : Called (replying o)
@@ -155,7 +155,7 @@ module _ (m : List ℕ) (g : Group) (there : isRecord m ≡ true) where
       (λ _. (refl, read-back (o .next) m (group-sized (recordOf m) (g .kind) (g .place) (g .value) .places ∙ record-places m) (record-long m there)))
       (λ e. (refl, (there, sym (kept (recordOf m) (g .kind) (g .place) (g .value) (eqb-false _ _ e)))))
 
-  called : Called (accessCall m (g .kind) (g .place) (g .value))
+  pub called : Called (accessCall m (g .kind) (g .place) (g .value))
   unfolding accessCall
   called = subst Called (sym (if-true _ _ _ there)) replied
 
