@@ -3,3 +3,4 @@ pub mod Padded
 pub mod ReadBack
 pub mod Fixed
 pub mod Told
+pub mod Emptied

@@ -1,10 +1,10 @@
--- A state's bytes lead back to the port that they were made of. Assumes nothing.
+-- A state's bytes lead back to the port that they were made of, and bytes are handed up once. Assumes nothing.
 use mathlib.Core.Bool.{Bool, true, false, not}
 use mathlib.Core.List.{List, [], _∷_, _++_, append-assoc}
 use mathlib.Core.Path.{_≡_, refl, sym, ap, subst, _∙_}
 use Prim.Native.Nat.{ℕ, _≤_}
 use native.Mathlib.Omega.{arith}
-use borrow.Author.Tests.{le-ltb}
+use borrow.Author.Tests.{le-ltb, eq-eqb}
 use lib.Dec.{eqb}
 use lib.ListN.{length, take, drop, length-append, length-set}
 use lib.Seq.{take-at, drop-at, drop-drop}
@@ -12,15 +12,18 @@ use Rattle.address.specs.Number.{bitOf}
 use Rattle.address.specs.declared.number.Direction.the-variants.{Write, Read}
 use Rattle.address.specs.declared.number.Direction.{Direction}
 use Rattle.notation.proofs.Laid.{laid-whole, laid-length, part-length}
-use Rattle.dock.specs.Calls.{StepCall, tooShort, telling, nextCall}
-use Rattle.dock.specs.ReadBack.{ReadBack, stateAfter, CallsInTurn}
+use Rattle.dock.proofs.Padded.{padded-length}
+use Rattle.dock.specs.Calls.{StepCall, TakeCall, tooShort, telling, nextCall, emptied, taking, takeCall}
+use Rattle.dock.specs.ReadBack.{ReadBack, stateAfter, CallsInTurn, TakenOnce}
 use Rattle.dock.specs.StateBytes.{bit, headBytes, bytesOf, marked, standOf, portOf}
-use Rattle.notation.proofs.Cases.{if-false}
+use Rattle.notation.proofs.Cases.{if-true, if-false}
 use Rattle.notation.specs.Choice.{if_then_else_, _and_}
 use Rattle.notation.specs.Overlay.{laid, laidAt}
-use Rattle.port.specs.Port.{Port, step, afterAll}
+use Rattle.port.specs.HandUp.{Taken, nothing, takeOf}
+use Rattle.port.specs.Hear.{hears, hearsAt}
+use Rattle.port.specs.Port.{Port, padded, step, afterAll, taken}
 use Rattle.port.specs.Stage.{stageNumber, stageFor}
-use Rattle.port.specs.Stand.{stand}
+use Rattle.port.specs.Stand.{stand, brokenOff}
 use Rattle.port.specs.declared.stage.Stage.the-variants.{Over, Control, Status, First, Waiting, Look, Interrupted, Working, Recovering, Pausing, Recheck}
 use Rattle.port.specs.declared.stage.Stage.{Stage}
 use Rattle.port.specs.declared.stand.Stand.{Stand}
@@ -102,3 +105,40 @@ calls-in-turn m [] l = refl
 calls-in-turn m (value ∷ values) l =
     let n = laid-length (nextCall m value .state) m in
     calls-in-turn (laid (nextCall m value .state) m) values (omega (arith, n, l)) ∙ ap (λ (p : Port). afterAll p values) (one-call m value l)
+
+-- a state keeps its length
+state-length : (m values : List ℕ) → length (stateAfter m values) ≡ length m
+unfolding stateAfter
+state-length m [] = refl
+state-length m (value ∷ values) = state-length (laid (nextCall m value .state) m) values ∙ laid-length (nextCall m value .state) m
+
+-- over with 21, whatever is heard after it, there is nothing to take
+none-left : (stale : Bool) (values payload fetched : List ℕ) (room : ℕ) →
+    taken (afterAll (record { stand = brokenOff 21 stale; payload = payload; fetched = fetched }) values) room ≡ nothing 21
+unfolding afterAll step hears hearsAt takeOf stageNumber if_then_else_
+none-left stale [] payload fetched room = refl
+none-left stale (value ∷ values) payload fetched room = none-left stale values payload _ room
+
+take-is : (m : List ℕ) (room : ℕ) → 148 ≤ length m → takeCall m room ≡ taking (portOf m) (taken (portOf m) room)
+unfolding takeCall tooShort
+take-is m room l = if-false _ _ _ (le-ltb (length m) 148 l)
+
+-- BYTES ARE HANDED UP ONCE.
+pub taken-once : TakenOnce
+unfolding taking emptied portOf
+taken-once m values room again l zero =
+    let p = portOf m in
+    let after-take = laid (takeCall m room .state) m in
+    let after = stateAfter after-take values in
+    let first = take-is m room l in
+    let done = eq-eqb _ 0 (sym (ap (λ (c : TakeCall). c .answer) first) ∙ zero) in
+    let left = ap (λ (c : TakeCall). c .state) first ∙ if-true _ _ _ done in
+    let back = ap (λ (xs : List ℕ). portOf (laid xs m)) left ∙ read-back (emptied p) m (part-length 12 m (omega (arith, l))) (padded-length []) l in
+    let n = laid-length (takeCall m room .state) m in
+    let k = state-length after-take values in
+    let port = calls-in-turn after-take values (omega (arith, n, l)) ∙ ap (λ (q : Port). afterAll q values) back in
+    let gone = ap (λ (q : Port). taken q again) port ∙ none-left (p .stand .stale) values (p .payload) (padded []) again in
+    let second = take-is after again (omega (arith, n, k, l)) in (
+      ap (λ (c : TakeCall). c .answer) second ∙ ap (λ (t : Taken). t .answer) gone,
+      ap (λ (c : TakeCall). c .handed) second ∙ ap (λ (t : Taken). t .handed) gone,
+    )

@@ -26,6 +26,15 @@ bytes-laid p m l =
     laid-append (headBytes (p .stand)) (p .payload ++ p .fetched) m
     ∙ ap (laid (headBytes (p .stand))) (laidAt-append 12 80 (p .payload) (p .fetched) m (omega (arith, l)))
 
+-- the same where the data are as they were
+pub kept-laid : (p : Port) (m : List ℕ) → p .payload ≡ take 68 (drop 12 m) → length (p .payload) ≡ 68 →
+    laid (bytesOf p) m ≡ laid (headBytes (p .stand)) (laidAt 80 (p .fetched) m)
+kept-laid p m d l =
+    let before = laidAt 80 (p .fetched) m in
+    bytes-laid p m l
+    ∙ ap (laid (headBytes (p .stand)))
+    (ap (λ (xs : List ℕ). laidAt 12 xs before) (d ∙ sym (before-laid 12 68 80 (p .fetched) m refl)) ∙ laid-same 12 68 before)
+
 -- What `tell` promises of the state as the parts left it, `before`, in which the port's own data stand.
 module _ (call : StepCall) (p : Port) (m before after : List ℕ) (result : ℕ) (e : call ≡ telling p)
     (step : result ≡ askNumber (asks (p .stand) (take 68 (drop 12 before)))) (state : after ≡ laid (headBytes (p .stand)) before) where
@@ -41,10 +50,9 @@ module _ (call : StepCall) (p : Port) (m before after : List ℕ) (result : ℕ)
   pub told-kept : p .payload ≡ take 68 (drop 12 m) → length (p .payload) ≡ 68 → before ≡ laidAt 80 (p .fetched) m →
       (result ≡ call .step) × (after ≡ laid (call .state) m)
   told-kept d l b =
-      let found : take 68 (drop 12 before) ≡ p .payload = ap (λ (x : List ℕ). take 68 (drop 12 x)) b ∙ before-laid 12 68 80 (p .fetched) m refl ∙ sym d in
-      let there = ap (λ (x : List ℕ). laidAt 12 x before) (sym found) ∙ laid-same 12 68 before in
-      telling-so found
-      (ap (laid (headBytes (p .stand))) (sym there ∙ ap (laidAt 12 (p .payload)) b) ∙ sym (bytes-laid p m l))
+      telling-so
+      (ap (λ (x : List ℕ). take 68 (drop 12 x)) b ∙ before-laid 12 68 80 (p .fetched) m refl ∙ sym d)
+      (ap (laid (headBytes (p .stand))) b ∙ sym (kept-laid p m d l))
 
   -- data and bytes read back are put anew
   pub told-anew : length (p .payload) ≡ 68 → 80 ≤ length (laidAt 80 (p .fetched) m) → before ≡ laidAt 12 (p .payload) (laidAt 80 (p .fetched) m) →

@@ -2,14 +2,14 @@
 use mathlib.Core.Bool.{Bool}
 use mathlib.Core.List.{List, []}
 use Prim.Native.Nat.{ℕ}
-use lib.Dec.{ltb}
+use lib.Dec.{eqb, ltb}
 use lib.ListN.{length}
 use Rattle.notation.specs.Choice.{if_then_else_}
 use Rattle.port.specs.Ask.{askNumber}
-use Rattle.port.specs.HandUp.{Taken, nothing}
-use Rattle.port.specs.Port.{Port, step, asking, started, recovering, givenUp, taken}
+use Rattle.port.specs.HandUp.{Taken}
+use Rattle.port.specs.Port.{Port, padded, step, asking, started, recovering, givenUp, taken}
 use Rattle.dock.specs.StateBytes.{stateSize, bytesOf, portOf}
-use Rattle.port.specs.Stand.{noJob}
+use Rattle.port.specs.Stand.{noJob, brokenOff}
 use Rattle.port.specs.declared.ask.Ask.the-variants.{Over}
 use Rattle.requests.specs.Jobs.{jobFor}
 use Rattle.service.specs.declared.job.Job.{Job}
@@ -45,6 +45,22 @@ nextCall m value = if tooShort m then notDone else telling (step (portOf m) valu
 unfoldable pub giveUpCall : List ℕ → StepCall
 giveUpCall m = if tooShort m then notDone else telling (givenUp (portOf m))
 
+-- what a call to take the bytes gives: its result, the bytes that the destination begins with after it, and those that the state begins with
+pub record TakeCall : Type 0 where
+  pub answer : ℕ
+  pub handed : List ℕ
+  pub state : List ℕ
+
+-- a port whose bytes were handed up: over with 21, and none of them is there any more
+unfoldable pub emptied : Port → Port
+emptied p = record { stand = brokenOff 21 (p .stand .stale); payload = p .payload; fetched = padded [] }
+
+-- bytes that were handed up are gone from the state; else it stays
+unfoldable pub taking : Port → Taken → TakeCall
+taking p t = record { answer = t .answer; handed = t .handed; state = if eqb (t .answer) 0 then bytesOf (emptied p) else [] }
+
 -- the length of the destination
-unfoldable pub takeCall : List ℕ → ℕ → Taken
-takeCall m destinationLength = if tooShort m then nothing 21 else taken (portOf m) destinationLength
+unfoldable pub takeCall : List ℕ → ℕ → TakeCall
+takeCall m destinationLength =
+    if tooShort m then record { answer = 21; handed = []; state = [] }
+    else taking (portOf m) (taken (portOf m) destinationLength)

@@ -1,10 +1,10 @@
--- What one call leaves in the state is what the next finds there, and calls one after the other are the port's steps. The proofs are in
--- proofs/ReadBack.antt.
+-- What one call leaves in the state is what the next finds there, calls one after the other are the port's steps, and bytes are handed up once. The proofs are
+-- in proofs/ReadBack.antt.
 use mathlib.Core.List.{List, [], _∷_}
 use mathlib.Core.Path.{_≡_}
 use Prim.Native.Nat.{ℕ, _≤_}
 use lib.ListN.{length}
-use Rattle.dock.specs.Calls.{nextCall}
+use Rattle.dock.specs.Calls.{TakeCall, nextCall, takeCall}
 use Rattle.dock.specs.StateBytes.{bytesOf, portOf}
 use Rattle.notation.specs.Overlay.{laid}
 use Rattle.port.specs.Port.{Port, afterAll}
@@ -20,3 +20,9 @@ stateAfter m (value ∷ values) = stateAfter (laid (nextCall m value .state) m) 
 
 abbrev pub CallsInTurn : Type 0
 CallsInTurn = (m values : List ℕ) → 148 ≤ length m → portOf (stateAfter m values) ≡ afterAll (portOf m) values
+
+-- bytes that were handed up can't be taken again, whatever the board does in between short of a start or a recovery
+abbrev pub TakenOnce : Type 0
+TakenOnce = (m values : List ℕ) (room again : ℕ) → 148 ≤ length m → takeCall m room .answer ≡ 0 →
+    let after = stateAfter (laid (takeCall m room .state) m) values in
+    (takeCall after again .answer ≡ 21) × (takeCall after again .handed ≡ [])

@@ -1,11 +1,13 @@
 // The functions that C and Rust call. C passes each slice as a pointer and a length. A state of under 148 bytes is answered as over with 21, and nothing is
 // written.
 use crate::memory::put_padded;
+use crate::state::hand_up_from;
 use crate::state::hear_in;
 use crate::state::is_marked;
 use crate::state::keep;
 use crate::state::load;
 use crate::state::load_marked;
+use crate::state::store;
 use crate::state::tell;
 use crate::state::tell_first;
 use address::number::Direction;
@@ -115,17 +117,25 @@ pub extern "C" fn perlovasta_give_up(state: &mut [u8]) -> u32
     tell_first(state, load(state).give_up())
 }
 
-// The bytes of a finished read go to the destination.
+// The bytes of a finished read go to the destination, once: they are gone from the state then.
 #[no_mangle]
-pub extern "C" fn perlovasta_take(state: &[u8], destination: &mut [u8]) -> u8
+pub extern "C" fn perlovasta_take(state: &mut [u8], destination: &mut [u8]) -> u8
     ensures answer { λ r. ⌜ r ≡ (takeCall (now (state .entry)) (length (now (destination .entry)))) .answer ⌝ }
     ensures handed { λ _. ⌜ now (destination .exit)
         ≡ laid ((takeCall (now (state .entry)) (length (now (destination .entry)))) .handed) (now (destination .entry)) ⌝ }
+    ensures state { λ _. ⌜ now (state .exit)
+        ≡ laid ((takeCall (now (state .entry)) (length (now (destination .entry)))) .state) (now (state .entry)) ⌝ }
 {
     let short = state.len() < 148;
     if short {
         return 21;
     }
-    let fetched = &state[80..148];
-    load(state).hand_up(fetched, destination)
+    let stand = load(state);
+    let answer = hand_up_from(state, stand, destination);
+    let done = answer == 0;
+    if done {
+        put_padded(state, 80, destination, 0);
+        store(state, Stand::break_off(21, stand.stale));
+    }
+    answer
 }

@@ -8,6 +8,7 @@ ghost use Prim.Native.Nat.{_≤_};
 ghost use lib.ListN.{length, take, drop, set, getD};
 ghost use Rattle.notation.specs.Overlay.{laid, laidAt};
 ghost use Rattle.port.specs.Ask.{askNumber};
+ghost use Rattle.port.specs.HandUp.{takeOf};
 ghost use Rattle.port.specs.Hear.{hears, asks, firstAsk};
 ghost use Rattle.dock.specs.StateBytes.{bit, headBytes, marked, standOf};
 
@@ -76,7 +77,7 @@ fn update(state: &mut [u8], s: Stand)
 }
 
 // All of it is put, whatever stood there.
-fn store(state: &mut [u8], s: Stand)
+pub(crate) fn store(state: &mut [u8], s: Stand)
     requires { ⌜ 148 ≤ length (now state) ⌝ }
     ensures { λ _. ⌜ now (state .exit) ≡ laid (headBytes s) (now (state .entry)) ⌝ }
 {
@@ -96,6 +97,17 @@ pub(crate) fn hear_in(state: &[u8], s: Stand, value: u8) -> Stand
 {
     let payload = &state[12..80];
     s.hear(payload, value)
+}
+
+// The bytes of a finished read go to the destination; the state is as it was.
+pub(crate) fn hand_up_from(state: &[u8], s: Stand, destination: &mut [u8]) -> u8
+    requires { ⌜ 148 ≤ length (now state) ⌝ }
+    ensures answer { λ r. ⌜ r ≡ (takeOf s (take 68 (drop 80 (now (state .entry)))) (length (now (destination .entry)))) .answer ⌝ }
+    ensures handed { λ _. ⌜ now (destination .exit)
+        ≡ laid ((takeOf s (take 68 (drop 80 (now (state .entry)))) (length (now (destination .entry)))) .handed) (now (destination .entry)) ⌝ }
+{
+    let fetched = &state[80..148];
+    s.hand_up(fetched, destination)
 }
 
 // The value read from I2CDAT is noted at its place; 68 is none.

@@ -1,50 +1,84 @@
--- `perlovasta_take` is `takeCall`: `hand_up` promises it of the bytes read back.
-use mathlib.Core.List.{List}
-use mathlib.Core.Path.{_≡_, sym, ap, _∙_}
+-- `perlovasta_take` is `takeCall`: `hand_up` promises it of the bytes read back, which are then gone from the state.
+use mathlib.Core.List.{List, []}
+use mathlib.Core.Path.{_≡_, refl, sym, ap, _∙_}
+use native.Mathlib.Omega.{arith}
 use borrow.Author.Needs.{needs}
+use borrow.Author.Tests.{ltb-false}
 use lib.ListN.{length, take, drop}
 use denote.Ref.{now}
-use Rattle.dock.specs.Calls.{tooShort, takeCall}
-use Rattle.dock.specs.StateBytes.{portOf}
-use Rattle.notation.proofs.Cases.{if-true, if-false}
-use Rattle.notation.specs.Overlay.{laid}
-use Rattle.port.specs.HandUp.{Taken, nothing, takeOf}
-use Rattle.port.specs.Port.{taken}
+use Rattle.dock.proofs.Emptied.{too-short, handed-up, not-handed}
+use Rattle.dock.proofs.Told.{kept-laid}
+use Rattle.dock.specs.Calls.{tooShort, emptied}
+use Rattle.dock.specs.StateBytes.{headBytes, portOf}
+use Rattle.notation.proofs.Laid.{part-length}
+use Rattle.notation.specs.Overlay.{laid, laidAt}
+use Rattle.port.specs.HandUp.{takeOf}
+use Rattle.port.specs.Port.{padded}
+use Rattle.port.specs.Stand.{brokenOff}
 use Rattle.port.specs.declared.stand.Stand.{Stand}
 use Rattle.dock.proofs.entry.perlovasta_take.Statement.{statement}
 use Rattle.dock.proofs.entry.perlovasta_take.Tie as tie
 
 returns : tie.Need-returns
-unfolding takeCall tooShort laid
+unfolding tooShort
 returns c =
     let a = c .before .before .before .args in
-    let e : takeCall (now (a .state)) (length (now (a .destination))) ≡ nothing 21 = if-true _ _ _ (c .if1 .taken) in
-    (sym (ap (λ (t : Taken). t .answer) e), sym (ap (λ (t : Taken). laid (t .handed) (now (a .destination))) e))
+    let g = too-short (now (a .state)) (now (a .destination)) (c .if1 .taken) in
+    (g .0, (g .1, g .2))
+
+store-requires : tie.Need-store-requires
+store-requires c κs =
+    let m = now (c .before .before .before .before .before .before .before .before .before .before .before .before .before .before .before .before .before .before .args .state) in
+    let long = ltb-false (length m) 148 (c .before .before .before .before .before .before .before .before .before .before .before .before .before .before .before .if1 .left) in
+    let kept = c .before .before .before .before .put-padded .kept .0 in
+    omega (arith, kept, long)
 
 returns-2 : tie.Need-returns-2
-unfolding takeCall tooShort portOf
+unfolding tooShort portOf emptied
 returns-2 c =
-    let a = c .before .before .before .before .before .before .before .before .before .args in
+    let a = c .before .before .before .before .before .before .before .before .before .before .before .before .before .before .before .before .before .before .before .before .before .args in
     let m = now (a .state) in
     let destination = now (a .destination) in
-    let fetched = take 68 (drop 80 m) in
-    let given = ap (λ (s : Stand). takeOf s fetched (length destination)) (c .before .before .before .before .load .ensures) in
-    let long = c .before .before .before .before .before .before .if1 .left in
-    let e : takeCall m (length destination) ≡ taken (portOf m) (length destination) = if-false _ _ _ long in
-    let up = c .before .before .hand-up .ensures in (
-      up .0 ∙ ap (λ (t : Taken). t .answer) (given ∙ sym e),
-      up .1 ∙ ap (λ (t : Taken). laid (t .handed) destination) (given ∙ sym e),
-    )
+    let short = c .before .before .before .before .before .before .before .before .before .before .before .before .before .before .before .before .before .before .if1 .left in
+    let long = ltb-false (length m) 148 short in
+    let load = c .before .before .before .before .before .before .before .before .before .before .before .before .before .before .before .before .load in
+    let up = c .before .before .before .before .before .before .before .before .before .before .before .before .before .hand-up-from in
+    let off = c .before .before .before .break-off .ensures ∙ ap (λ (s : Stand). brokenOff 21 (s .stale)) (load .ensures) in
+    let state =
+    c .before .before .store .ensures
+    ∙ ap (laid (headBytes (c .before .before .before .break-off .result))) (c .before .before .before .before .before .before .before .put-padded .ensures)
+    ∙ ap (λ (s : Stand). laid (headBytes s) (laidAt 80 (padded []) m)) off
+    ∙ sym (kept-laid (emptied (portOf m)) m refl (part-length 12 m (omega (arith, long)))) in
+    let g = handed-up m destination _ _ (takeOf (load .result) (take 68 (drop 80 m)) (length destination)) short
+    (ap (λ (s : Stand). takeOf s (take 68 (drop 80 m)) (length destination)) (load .ensures)) (up .ensures .0) (up .ensures .1) _
+    (c .before .before .before .before .before .before .before .before .before .before .if2 .taken) state in
+    (g .0, (g .1, g .2))
+
+returns-3 : tie.Need-returns-3
+unfolding tooShort portOf
+returns-3 c =
+    let a = c .before .before .before .before .before .before .before .before .before .before .before .args in
+    let m = now (a .state) in
+    let destination = now (a .destination) in
+    let load = c .before .before .before .before .before .before .load in
+    let up = c .before .before .before .hand-up-from in
+    let g = not-handed m destination _ _ (takeOf (load .result) (take 68 (drop 80 m)) (length destination)) (c .before .before .before .before .before .before .before .before .if1 .left)
+    (ap (λ (s : Stand). takeOf s (take 68 (drop 80 m)) (length destination)) (load .ensures)) (up .ensures .0) (up .ensures .1) (c .if2 .left) in
+    (g .0, (g .1, g .2))
 
 pub perlovasta-take-spec : {M : Type 1} → statement M
 perlovasta-take-spec =
     tie.close
     (tie.spec
     returns
-    (λ c. search needs)
-    (λ c. search needs)
-    (λ c. search needs)
     (λ c κs. search needs)
     (λ c κs. search needs)
+    (λ c κs. search needs)
+    (λ c κs. search needs)
+    store-requires
     (λ c. search needs)
-    returns-2)
+    (λ c. search needs)
+    returns-2
+    (λ c. search needs)
+    (λ c. search needs)
+    returns-3)
