@@ -169,15 +169,16 @@ perlovasta_give_up(uint8_t *state, size_t state_len);
 
 /*
  * The bytes of a finished read go to the destination. Returns 0 exactly if the
- * job is over, is a read and was answered 0, and the destination has at least
- * n bytes: its first n bytes are written then, and its rest stays. Else nothing
- * is written, and it returns why: 27 if it is not over; else the answer, if that
- * is not 0; else 21, since it was no read or the destination is too short. It
- * can be called again: the state stays as it is, until the next start or
- * recovery. So take the bytes right after the job, and look at its answer too.
+ * job is over, is a read and was answered 0, its bytes were not taken before, and
+ * the destination has at least n bytes: its first n bytes are written then, its
+ * rest stays, and the bytes are gone from the state, which is over with 21 from
+ * then on. So the bytes of one read can be taken once. Else nothing is written,
+ * the state stays too, and it returns why: 27 if it is not over; else the answer,
+ * if that is not 0; else 21, since it was no read or the destination is too short.
+ * Take the bytes before the next start or recovery, which clears them.
  */
 PERLOVASTA_LOOK PERLOVASTA_NO_NULL uint8_t
-perlovasta_take(const uint8_t *state, size_t state_len, uint8_t *destination,
+perlovasta_take(uint8_t *state, size_t state_len, uint8_t *destination,
                 size_t destination_len);
 
 #ifdef __cplusplus
@@ -190,7 +191,7 @@ perlovasta_take(const uint8_t *state, size_t state_len, uint8_t *destination,
  * earlier read are never taken for those of a job that failed. 21 for a recovery.
  */
 PERLOVASTA_LOOK PERLOVASTA_NO_NULL static inline perlovasta_read_result
-perlovasta_take_read(const uint8_t *state, size_t state_len, perlovasta_step over) {
+perlovasta_take_read(uint8_t *state, size_t state_len, perlovasta_step over) {
     perlovasta_read_result read = {0, 0, {0}};
     uint8_t answer = perlovasta_answer(over), n = perlovasta_count(over);
     if (perlovasta_kind(over) != PERLOVASTA_OVER)

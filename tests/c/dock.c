@@ -58,6 +58,7 @@ int main(void) {
     run(perlovasta_recover(state, sizeof state, settings, sizeof settings), none);
     run(perlovasta_start(state, sizeof state, PERLOVASTA_READ, 0x50, 3, none, 0), answered);
     take();
+    take();
     run(perlovasta_start(state, sizeof state, PERLOVASTA_READ, 0x50, 3, none, 0), reset);
     take();
     run(perlovasta_start(state, sizeof state, PERLOVASTA_READ, 0x50, 3, none, 0), silent);

@@ -44,7 +44,7 @@ static unsigned times_run(uint8_t answer, uint8_t n) {
 
 /* What is answered when the bytes of a read are asked for at this step, in a state that holds none. */
 static uint8_t taken_at(perlovasta_step step) {
-    static const uint8_t state[PERLOVASTA_STATE] = {0};
+    static uint8_t state[PERLOVASTA_STATE] = {0};
     uint8_t answer;
     PERLOVASTA_IF_DONE(read, answer, perlovasta_take_read(state, sizeof state, step)) {
         CHECK(read.n == 0);

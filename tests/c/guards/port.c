@@ -92,22 +92,27 @@ static perlovasta_step next(uint8_t value) {
     return step;
 }
 
-/* Bytes that were taken: as many as the end of the job says, the same each time, and no other byte is written. A state that no call has written may say
-   any number; its bytes are 68 at most. */
+/* Bytes that were taken: as many as the end of the job says, and no other byte is written. They are gone from the state then, and can't be taken again. A
+   state that no call has written may say any number; its bytes are 68 at most. */
 static void check_taken(perlovasta_step end, bool any) {
-    uint8_t again[PERLOVASTA_PLACES], n = perlovasta_count(end);
+    static const uint8_t none[PERLOVASTA_PLACES];
+    size_t n = any ? PERLOVASTA_PLACES : perlovasta_count(end);
     EXPECT(is_over(end, PERLOVASTA_DONE));
-    if (any) {
-        EXPECT(lent_kept_from(&destination, destination.len < PERLOVASTA_PLACES ? destination.len : PERLOVASTA_PLACES));
-        return;
-    }
-    EXPECT(n >= 1 && n <= PERLOVASTA_PLACES && lent_kept_from(&destination, n));
-    EXPECT(perlovasta_take(state.bytes, state.len, again, sizeof again) == PERLOVASTA_DONE && memcmp(again, destination.bytes, n) == 0);
+    EXPECT(n >= 1 && n <= PERLOVASTA_PLACES);
+    EXPECT(lent_kept_from(&destination, n < destination.len ? n : destination.len));
+    EXPECT(lent_kept_from(&state, PERLOVASTA_STATE));
+    EXPECT(memcmp(state.bytes + PERLOVASTA_STATE - sizeof none, none, sizeof none) == 0);
+    lent_note(&destination);
+    EXPECT(perlovasta_take(state.bytes, state.len, destination.bytes, destination.len) == PERLOVASTA_MALFORMED);
+    EXPECT(lent_kept_from(&destination, 0));
 }
 
-/* What is taken now, from the state that goes on or from any; what its end is, where it is over, the next step of a copy says. */
+/* What is taken now, from the state that goes on or from any; what its end is, where it is over, the next step of a copy made before says. */
 static void take(lent_place place, bool any) {
-    uint8_t copy[PERLOVASTA_STATE];
+    uint8_t copy[PERLOVASTA_STATE] = {0};
+    if (state.len >= sizeof copy)
+        memcpy(copy, state.bytes, sizeof copy);
+    perlovasta_step end = perlovasta_next(copy, sizeof copy, 0);
     lend(&destination, random_near(any ? PERLOVASTA_PLACES : perlovasta_count(last)), place);
     lent_note(&destination);
     expect_call("perlovasta_take");
@@ -115,14 +120,11 @@ static void take(lent_place place, bool any) {
     uint8_t answer = perlovasta_take(state.bytes, state.len, destination.bytes, destination.len);
     depth_note(DEPTH_PORT);
     tally_meet(MET_TAKE, answer);
-    EXPECT(lent_kept_from(&state, 0));
-    EXPECT(answer == PERLOVASTA_DONE || lent_kept_from(&destination, 0));
+    EXPECT(answer == PERLOVASTA_DONE || (lent_kept_from(&destination, 0) && lent_kept_from(&state, 0)));
     if (state.len < PERLOVASTA_STATE) {
         EXPECT(answer == PERLOVASTA_MALFORMED);
         return;
     }
-    memcpy(copy, state.bytes, sizeof copy);
-    perlovasta_step end = perlovasta_next(copy, sizeof copy, 0);
     if (answer == PERLOVASTA_DONE)
         check_taken(end, any);
     else

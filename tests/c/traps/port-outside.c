@@ -2,8 +2,8 @@
  * expected: 1 undeclared|not declared */
 #include "perlovasta_dock.h"
 
-int open_door(const uint8_t *state, size_t state_len, perlovasta_step over);
-int open_door(const uint8_t *state, size_t state_len, perlovasta_step over) {
+int open_door(uint8_t *state, size_t state_len, perlovasta_step over);
+int open_door(uint8_t *state, size_t state_len, perlovasta_step over) {
     uint8_t answer;
     PERLOVASTA_IF_DONE(badge, answer, perlovasta_take_read(state, state_len, over)) {
 #ifdef RIGHT

@@ -2,8 +2,8 @@
  * expected: 1 unused-variable */
 #include "perlovasta_dock.h"
 
-int open_door(const uint8_t *state, size_t state_len);
-int open_door(const uint8_t *state, size_t state_len) {
+int open_door(uint8_t *state, size_t state_len);
+int open_door(uint8_t *state, size_t state_len) {
     uint8_t badge[8] = {0};
     uint8_t answer = perlovasta_take(state, state_len, badge, sizeof badge);
 #ifdef RIGHT

@@ -3,7 +3,7 @@
 #include "perlovasta.h"
 #include "perlovasta_dock.h"
 
-#define WRONG_LIBRARIES 12
+#define WRONG_LIBRARIES 14
 
 #define JOB_PARAMETERS                                                                                                                         \
     uint8_t kind, uint8_t address, uint8_t n, const uint8_t *data, size_t data_len, uint8_t *destination, size_t destination_len, uint8_t *out, \
@@ -58,13 +58,18 @@ uint32_t __wrap_perlovasta_next(uint8_t *state, size_t state_len, uint8_t value)
     return __real_perlovasta_next(state, state_len, value);
 }
 
-uint8_t __real_perlovasta_take(const uint8_t *state, size_t state_len, uint8_t *destination, size_t destination_len);
-uint8_t __wrap_perlovasta_take(const uint8_t *state, size_t state_len, uint8_t *destination, size_t destination_len);
-uint8_t __wrap_perlovasta_take(const uint8_t *state, size_t state_len, uint8_t *destination, size_t destination_len) {
+uint8_t __real_perlovasta_take(uint8_t *state, size_t state_len, uint8_t *destination, size_t destination_len);
+uint8_t __wrap_perlovasta_take(uint8_t *state, size_t state_len, uint8_t *destination, size_t destination_len);
+uint8_t __wrap_perlovasta_take(uint8_t *state, size_t state_len, uint8_t *destination, size_t destination_len) {
+    uint8_t kept = state_len > 2 ? state[2] : 0, first = state_len > 80 ? state[80] : 0;
     uint8_t answer = __real_perlovasta_take(state, state_len, destination, destination_len);
     if (WRONG == 11 && answer == PERLOVASTA_FAULT && destination_len > 0)
         destination[0]++; /* bytes are handed up where none are */
     if (WRONG == 12)
         (void)*(volatile const uint8_t *)(state + state_len); /* a look past the end of the state */
+    if (WRONG == 13 && answer == PERLOVASTA_DONE)
+        state[80] = first; /* a byte that was handed up stays in the state */
+    if (WRONG == 14 && answer == PERLOVASTA_NOT_READY && state_len > 2)
+        state[2] = (uint8_t)(kept + 1); /* a take that gives nothing changes the state */
     return answer;
 }
