@@ -1,5 +1,5 @@
--- The virtual chip is the controller: whatever list of accesses, events and jobs is asked of the bytes, the calls answer as the rules do on the record. The proof is
--- in proofs/ChipIsController.antt.
+-- The virtual chip is the controller: whatever list of accesses, events and jobs is asked of the bytes, the calls give what the rules give on the record. The
+-- proof is in proofs/ChipIsController.antt.
 use mathlib.Core.Bool.{true}
 use mathlib.Core.List.{List, [], _∷_}
 use mathlib.Core.Path.{_≡_}

@@ -28,42 +28,48 @@ returns c =
 
 store-requires : tie.Need-store-requires
 store-requires c κs =
-    let m = now (c .before .before .before .before .before .before .before .before .before .before .before .before .before .before .before .before .before .before .args .state) in
-    let long = ltb-false (length m) 148 (c .before .before .before .before .before .before .before .before .before .before .before .before .before .before .before .if1 .left) in
-    let kept = c .before .before .before .before .put-padded .kept .0 in
+    let put = c .before .before .before .before in
+    let test = put .before .before .before .before .before .before .before .before .before .before .before in
+    let long = ltb-false (length (now (test .before .before .before .args .state))) 148 (test .if1 .left) in
+    let kept = put .put-padded .kept .0 in
     omega (arith, kept, long)
 
 returns-2 : tie.Need-returns-2
 unfolding tooShort portOf emptied
 returns-2 c =
-    let a = c .before .before .before .before .before .before .before .before .before .before .before .before .before .before .before .before .before .before .before .before .before .args in
+    let off = c .before .before .before .break-off in
+    let put = c .before .before .before .before .before .before .before in
+    let up = put .before .before .before .before .before .before in
+    let load = up .before .before .before in
+    let short = load .before .before .if1 .left in
+    let a = load .before .before .before .before .before .args in
     let m = now (a .state) in
     let destination = now (a .destination) in
-    let short = c .before .before .before .before .before .before .before .before .before .before .before .before .before .before .before .before .before .before .if1 .left in
     let long = ltb-false (length m) 148 short in
-    let load = c .before .before .before .before .before .before .before .before .before .before .before .before .before .before .before .before .load in
-    let up = c .before .before .before .before .before .before .before .before .before .before .before .before .before .hand-up-from in
-    let off = c .before .before .before .break-off .ensures ∙ ap (λ (s : Stand). brokenOff 21 (s .stale)) (load .ensures) in
+    let bytes = take 68 (drop 80 m) in
     let state =
     c .before .before .store .ensures
-    ∙ ap (laid (headBytes (c .before .before .before .break-off .result))) (c .before .before .before .before .before .before .before .put-padded .ensures)
-    ∙ ap (λ (s : Stand). laid (headBytes s) (laidAt 80 (padded []) m)) off
+    ∙ ap (laid (headBytes (off .result))) (put .put-padded .ensures)
+    ∙ ap (λ (s : Stand). laid (headBytes s) (laidAt 80 (padded []) m))
+    (off .ensures ∙ ap (λ (s : Stand). brokenOff 21 (s .stale)) (load .load .ensures))
     ∙ sym (kept-laid (emptied (portOf m)) m refl (part-length 12 m (omega (arith, long)))) in
-    let g = handed-up m destination _ _ (takeOf (load .result) (take 68 (drop 80 m)) (length destination)) short
-    (ap (λ (s : Stand). takeOf s (take 68 (drop 80 m)) (length destination)) (load .ensures)) (up .ensures .0) (up .ensures .1) _
-    (c .before .before .before .before .before .before .before .before .before .before .if2 .taken) state in
+    let g = handed-up m destination _ _ (takeOf (load .load .result) bytes (length destination)) short
+    (ap (λ (s : Stand). takeOf s bytes (length destination)) (load .load .ensures)) (up .hand-up-from .ensures .0) (up .hand-up-from .ensures .1) _
+    (put .before .before .before .if2 .taken) state in
     (g .0, (g .1, g .2))
 
 returns-3 : tie.Need-returns-3
 unfolding tooShort portOf
 returns-3 c =
-    let a = c .before .before .before .before .before .before .before .before .before .before .before .args in
+    let up = c .before .before .before in
+    let load = up .before .before .before in
+    let a = load .before .before .before .before .before .args in
     let m = now (a .state) in
     let destination = now (a .destination) in
-    let load = c .before .before .before .before .before .before .load in
-    let up = c .before .before .before .hand-up-from in
-    let g = not-handed m destination _ _ (takeOf (load .result) (take 68 (drop 80 m)) (length destination)) (c .before .before .before .before .before .before .before .before .if1 .left)
-    (ap (λ (s : Stand). takeOf s (take 68 (drop 80 m)) (length destination)) (load .ensures)) (up .ensures .0) (up .ensures .1) (c .if2 .left) in
+    let bytes = take 68 (drop 80 m) in
+    let g = not-handed m destination _ _ (takeOf (load .load .result) bytes (length destination)) (load .before .before .if1 .left)
+    (ap (λ (s : Stand). takeOf s bytes (length destination)) (load .load .ensures)) (up .hand-up-from .ensures .0) (up .hand-up-from .ensures .1)
+    (c .if2 .left) in
     (g .0, (g .1, g .2))
 
 pub perlovasta-take-spec : {M : Type 1} → statement M

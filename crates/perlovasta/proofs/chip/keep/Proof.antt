@@ -25,9 +25,10 @@ returns c =
 returns-2 : tie.Need-returns-2
 unfolding resultLeft resultOf
 returns-2 c =
-    let m = now (c .before .before .before .before .before .before .before .args .chip) in
-    let test = ap (λ (k : ℕ). eqb k 21 or eqb k 22) (sym (c .before .before .before .before .before .number .ensures)) ∙ sym (either _ _) ∙ c .before .before .before .before .if1 .left in
-    c .before .before .store .ensures ∙ sym (ap (λ (xs : List ℕ). laid xs m) (if-false _ _ _ test))
+    let test = c .before .before .before .before in
+    let m = now (test .before .before .before .args .chip) in
+    let other = ap (λ (k : ℕ). eqb k 21 or eqb k 22) (sym (test .before .number .ensures)) ∙ sym (either _ _) ∙ test .if1 .left in
+    c .before .before .store .ensures ∙ sym (ap (λ (xs : List ℕ). laid xs m) (if-false _ _ _ other))
 
 pub keep-spec : {M : Type 1} → statement M
 keep-spec = tie.close (tie.spec (λ c κs. search needs) returns (λ c κs. search needs) (λ c. search needs) returns-2)

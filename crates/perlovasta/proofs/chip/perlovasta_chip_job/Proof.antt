@@ -30,25 +30,33 @@ returns c =
 
 run-reported-requires : tie.Need-run-reported-requires
 run-reported-requires c κs =
-    let s = c .before .before .before .before .before .before .before .before .before .before .before .before .args in
-    (ltb-false (length (now (s .report))) 12 (c .before .before .before .before .before .if1 .left), ap (λ (d : Controller). length (d .buffer)) (c .before .before .before .load .ensures) ∙ record-places (now (s .chip)))
+    let load = c .before .before .before in
+    let test = load .before .before in
+    let s = test .before .before .before .before .before .before .before .args in (
+      ltb-false (length (now (s .report))) 12 (test .if1 .left),
+      ap (λ (d : Controller). length (d .buffer)) (load .load .ensures) ∙ record-places (now (s .chip)),
+    )
 
 returns-2 : tie.Need-returns-2
 unfolding resultOf chipAfterJob
 returns-2 c =
-    let s = c .before .before .before .before .before .before .before .before .before .before .before .before .before .before .before .before .before .before .before .before .before .before .before .before .args in
+    let run = c .before .before .before .before .before .before .before .before .before .before .before in
+    let load = run .before .before .before .before in
+    let test = load .before .before in
+    let s = test .before .before .before .before .before .before .before .args in
     let chip = now (s .chip) in
+    let payload = now (s .payload) in
     let destination = now (s .destination) in
     let out = now (s .out) in
+    let script = now (s .script) in
     let report = now (s .report) in
-    let run = c .before .before .before .before .before .before .before .before .before .before .before .run-reported in
-    let ran = run .ensures in
-    let long = c .before .before .before .before .before .before .before .before .before .before .before .before .before .before .before .before .before .if1 .left in
-    let asked : Controller → Report = λ d. requestReport d (s .kind) (s .address) (s .n) (now (s .payload)) (length destination) (length out) (now (s .script)) in
-    let same = ap asked (c .before .before .before .before .before .before .before .before .before .before .before .before .before .before .before .load .ensures) in
+    let ran = run .run-reported .ensures in
+    let long = test .if1 .left in
+    let asked : Controller → Report = λ d. requestReport d (s .kind) (s .address) (s .n) payload (length destination) (length out) script in
+    let same = ap asked (load .load .ensures) in
     let result = ran .0 ∙ ap (λ (r : Report). r .result) same in
-    let g = reported (recordOf chip) (s .kind) (s .address) (s .n) (now (s .payload)) destination out (now (s .script)) report _
-    (resultOf (run .result)) _ _ _ long (c .number .ensures) result
+    let g = reported (recordOf chip) (s .kind) (s .address) (s .n) payload destination out script report _
+    (resultOf (run .run-reported .result)) _ _ _ long (c .number .ensures) result
     (ran .1 .0 ∙ ap (λ (r : Report). laid (r .handed) destination) same) (ran .1 .1 .0 ∙ ap (λ (r : Report). laid (r .sent) out) same)
     (ran .1 .1 .1 ∙ ap (λ (r : Report). laid (reportOfJob r) report) same) in
     let left =

@@ -24,22 +24,29 @@ returns c =
 
 run-reported-requires : tie.Need-run-reported-requires
 run-reported-requires c κs =
-    let report = now (c .before .before .before .before .before .before .before .before .before .before .args .report) in
-    (ltb-false (length report) 12 (c .before .before .before .before .if1 .left), ap (λ (d : Controller). length (d .buffer)) (c .before .before .before .fresh-enabled .ensures) ∙ fresh-enabled-places)
+    let fresh = c .before .before .before in
+    let test = fresh .before in
+    let report = now (test .before .before .before .before .before .before .args .report) in (
+      ltb-false (length report) 12 (test .if1 .left),
+      ap (λ (d : Controller). length (d .buffer)) (fresh .fresh-enabled .ensures) ∙ fresh-enabled-places,
+    )
 
 returns-2 : tie.Need-returns-2
 unfolding resultOf
 returns-2 c =
-    let s = c .before .before .before .before .before .before .before .before .before .before .before .before .before .before .before .before .before .before .args in
+    let run = c .before .before .before .before .before .before .before in
+    let fresh = run .before .before .before .before in
+    let s = fresh .before .before .before .before .before .before .before .args in
+    let payload = now (s .payload) in
     let destination = now (s .destination) in
     let out = now (s .out) in
+    let script = now (s .script) in
     let report = now (s .report) in
-    let ran = c .before .before .before .before .before .before .before .run-reported .ensures in
-    let asked : Controller → Report = λ d. requestReport d (s .kind) (s .address) (s .n) (now (s .payload)) (length destination) (length out) (now (s .script)) in
-    let same = ap asked (c .before .before .before .before .before .before .before .before .before .before .before .fresh-enabled .ensures) in
-    let g = reported freshEnabled (s .kind) (s .address) (s .n) (now (s .payload)) destination out (now (s .script)) report _
-    (resultOf (c .before .before .before .before .before .before .before .run-reported .result)) _ _ _
-    (c .before .before .before .before .before .before .before .before .before .before .before .before .if1 .left) (c .number .ensures) (ran .0 ∙ ap (λ (r : Report). r .result) same)
+    let ran = run .run-reported .ensures in
+    let asked : Controller → Report = λ d. requestReport d (s .kind) (s .address) (s .n) payload (length destination) (length out) script in
+    let same = ap asked (fresh .fresh-enabled .ensures) in
+    let g = reported freshEnabled (s .kind) (s .address) (s .n) payload destination out script report _
+    (resultOf (run .run-reported .result)) _ _ _ (fresh .before .if1 .left) (c .number .ensures) (ran .0 ∙ ap (λ (r : Report). r .result) same)
     (ran .1 .0 ∙ ap (λ (r : Report). laid (r .handed) destination) same) (ran .1 .1 .0 ∙ ap (λ (r : Report). laid (r .sent) out) same)
     (ran .1 .1 .1 ∙ ap (λ (r : Report). laid (reportOfJob r) report) same) in
     (g .0, (g .1, (g .2, g .3)))

@@ -18,14 +18,16 @@ put-report-requires c κs =
     let at = c .before .before .before .before .before .before .before .before .before .before .before .before .before in
     let s = at .args in
     let number = c .before .before .before .before .before .run-request .ensures .1 .1 .1 in
-    let few = few-sent (s .c) (s .kind) (s .address) (s .n) (now (s .payload)) (length (now (s .destination))) (length (now (s .out))) (now (s .script)) (at .pre .1) in
+    let few = few-sent (s .c) (s .kind) (s .address) (s .n) (now (s .payload)) (length (now (s .destination))) (length (now (s .out)))
+    (now (s .script)) (at .pre .1) in
     (at .pre .0, omega (arith, number, few))
 
 returns : tie.Need-returns
 returns c =
     let s = c .before .before .before .before .before .before .before .before .before .before .before .before .before .before .before .before .args in
     let report = now (s .report) in
-    let request = requestReport (s .c) (s .kind) (s .address) (s .n) (now (s .payload)) (length (now (s .destination))) (length (now (s .out))) (now (s .script)) in
+    let request = requestReport (s .c) (s .kind) (s .address) (s .n) (now (s .payload)) (length (now (s .destination))) (length (now (s .out)))
+    (now (s .script)) in
     let ran = c .before .before .before .before .before .before .before .before .run-request in (
       ran .ensures .0,
       (

@@ -27,7 +27,8 @@ returns c =
     let a = at .before .args in
     let m = now (a .memory) in
     let found = sym (reply .before .before .before .before .is-record .ensures) ∙ reply .before .before .before .if1 .taken in
-    let asked = reply .access .ensures ∙ ap (λ (d : Controller). groupOf d (a .kind) (a .place) (a .value)) (reply .before .decode .ensures ∙ sym (if-true _ _ _ found)) in
+    let stored = reply .before .decode .ensures ∙ sym (if-true _ _ _ found) in
+    let asked = reply .access .ensures ∙ ap (λ (d : Controller). groupOf d (a .kind) (a .place) (a .value)) stored in
     accepted m (a .kind) (a .place) (a .value) _ _ (outcomeOf (reply .access .result)) found asked (value .before .refused .ensures) (value .value .ensures) _
     (c .before .before .before .before .if2 .taken) (c .before .before .store .ensures)
 
@@ -40,7 +41,8 @@ returns-2 c =
     let a = at .before .args in
     let m = now (a .memory) in
     let found = sym (reply .before .before .before .before .is-record .ensures) ∙ reply .before .before .before .if1 .taken in
-    let asked = reply .access .ensures ∙ ap (λ (d : Controller). groupOf d (a .kind) (a .place) (a .value)) (reply .before .decode .ensures ∙ sym (if-true _ _ _ found)) in
+    let stored = reply .before .decode .ensures ∙ sym (if-true _ _ _ found) in
+    let asked = reply .access .ensures ∙ ap (λ (d : Controller). groupOf d (a .kind) (a .place) (a .value)) stored in
     refused-so m (a .kind) (a .place) (a .value) _ _ (outcomeOf (reply .access .result)) found asked (value .before .refused .ensures) (value .value .ensures)
     (c .if2 .left)
 

@@ -7,7 +7,11 @@ use Rattle.virtual_chip.proofs.record.decode.Tie as tie
 
 returns : tie.Need-returns
 unfolding decoded
-returns c = rw (c .before .before .before .before .before .before .before .before .before .before .before .before .before .before .before .before .before .before .before .before .load-buffer .ensures, c .before .before .before .before .before .before .before .before .before .before .before .before .before .before .before .before .before .turn-for .ensures, c .before .before .before .before .before .before .before .before .before .before .before .before .before .before .before .reason-for .ensures) refl
+returns c =
+    let reason = c .before .before .before .before .before .before .before .before .before .before .before .before .before .before .before in
+    let turn = reason .before .before in
+    let buffer = turn .before .before .before in
+    rw (buffer .load-buffer .ensures, turn .turn-for .ensures, reason .reason-for .ensures) refl
 
 pub decode-spec : {M : Type 1} → statement M
 decode-spec =
