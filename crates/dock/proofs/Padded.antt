@@ -1,10 +1,9 @@
 -- 68 places that begin with some bytes, zeros after them. Assumes nothing.
 use mathlib.Core.List.{List, [], _∷_, _++_}
-use mathlib.Core.Path.{_≡_, refl, sym, ap, _∙_}
+use mathlib.Core.Path.{_≡_, refl, ap, _∙_}
 use Prim.Native.Nat.{ℕ, zero, suc, _+_, _<_}
-use native.Mathlib.Nat.{le-of-suc-le-suc}
 use native.Mathlib.Omega.{arith}
-use lib.ListN.{length, take, drop, getD, replicate, length-append, length-replicate}
+use lib.ListN.{length, drop, getD, replicate, length-append, length-replicate}
 use lib.Seq.{length-take-le, getD-take}
 use Rattle.notation.proofs.Lists.{drop-one}
 use Rattle.port.specs.Port.{padded}

@@ -1,7 +1,7 @@
 -- A state's bytes lead back to the port that they were made of, and bytes are handed up once. Assumes nothing.
 use mathlib.Core.Bool.{Bool, true, false, not}
 use mathlib.Core.List.{List, [], _∷_, _++_, append-assoc}
-use mathlib.Core.Path.{_≡_, refl, sym, ap, subst, _∙_}
+use mathlib.Core.Path.{_≡_, refl, sym, ap, _∙_}
 use Prim.Native.Nat.{ℕ, _≤_}
 use native.Mathlib.Omega.{arith}
 use borrow.Author.Tests.{le-ltb, eq-eqb}
@@ -18,7 +18,7 @@ use Rattle.dock.specs.ReadBack.{ReadBack, stateAfter, CallsInTurn, Taken
 use Rattle.dock.specs.StateBytes.{bit, headBytes, bytesOf, marked, standOf, portOf}
 use Rattle.notation.proofs.Cases.{if-true, if-false}
 use Rattle.notation.specs.Choice.{if_then_else_, _and_}
-use Rattle.notation.specs.Overlay.{laid, laidAt}
+use Rattle.notation.specs.Overlay.{laid}
 use Rattle.port.specs.HandUp.{Taken, nothing, takeOf}
 use Rattle.port.specs.Hear.{hears, hearsAt}
 use Rattle.port.specs.Port.{Port, padded, step, afterAll, taken}
@@ -28,7 +28,6 @@ use Rattle.port.specs.declared.stage.Stage.the-variants.{Over, Control, Status,
 use Rattle.port.specs.declared.stage.Stage.{Stage}
 use Rattle.port.specs.declared.stand.Stand.{Stand}
 use Rattle.requests.specs.Jobs.{directionFor}
-use Rattle.service.specs.declared.job.Job.{Job}
 
 stage-back : (x : Stage) → stageFor (stageNumber x) ≡ x
 unfolding stageFor stageNumber if_then_else_

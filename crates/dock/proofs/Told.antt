@@ -10,8 +10,7 @@ use Rattle.dock.specs.StateBytes.{headBytes, bytesOf}
 use Rattle.notation.specs.Overlay.{laid, laidAt}
 use Rattle.port.specs.Ask.{askNumber}
 use Rattle.port.specs.Hear.{asks}
-use Rattle.port.specs.Port.{Port, asking}
-use Rattle.port.specs.declared.stand.Stand.{Stand}
+use Rattle.port.specs.Port.{Port}
 
 -- a state that is too short
 pub not-done : (call : StepCall) (m : List ℕ) → call ≡ notDone → (_≡_ {A = ℕ} 5381 (call .step)) × (m ≡ laid (call .state) m)

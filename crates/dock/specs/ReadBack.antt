@@ -4,7 +4,7 @@ use mathlib.Core.List.{List, [], _∷_}
 use mathlib.Core.Path.{_≡_}
 use Prim.Native.Nat.{ℕ, _≤_}
 use lib.ListN.{length}
-use Rattle.dock.specs.Calls.{TakeCall, nextCall, takeCall}
+use Rattle.dock.specs.Calls.{nextCall, takeCall}
 use Rattle.dock.specs.StateBytes.{bytesOf, portOf}
 use Rattle.notation.specs.Overlay.{laid}
 use Rattle.port.specs.Port.{Port, afterAll}

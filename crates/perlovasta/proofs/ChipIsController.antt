@@ -8,13 +8,13 @@ use lib.Dec.{eqb, ltb}
 use lib.ListN.{length, replicate, length-replicate}
 use Rattle.controller.specs.declared.record.Controller.{Controller}
 use Rattle.driver.specs.Run.{Result, Report, declines, jobOf}
-use Rattle.notation.proofs.Cases.{if-true, if-false, split}
+use Rattle.notation.proofs.Cases.{if-false, split}
 use Rattle.notation.specs.Choice.{if_then_else_, _or_, among}
 use Rattle.notation.specs.Overlay.{laid}
 use Rattle.perlovasta.proofs.JobPlaces.{request-placed}
-use Rattle.perlovasta.specs.ChipIsController.{JobAsked, Asked, access, job, replied}
+use Rattle.perlovasta.specs.ChipIsController.{Asked, access, job, replied}
 use Rattle.perlovasta.specs.ChipIsController.{callGives, bytesAfter, ruleGives, recordAfter, callsGive, rulesGive, ChipIsController}
-use Rattle.perlovasta.specs.Job.{JobCall, requestReport, tells, jobCallOn, resultLeft, chipAfterJob}
+use Rattle.perlovasta.specs.Job.{JobCall, requestReport, jobCallOn, resultLeft, chipAfterJob}
 use Rattle.requests.specs.Jobs.{jobFor}
 use Rattle.runs.proofs.Demand1.{demand-1}
 use Rattle.service.specs.declared.job.Job.{Job}

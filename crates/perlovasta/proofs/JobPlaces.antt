@@ -1,6 +1,6 @@
 -- A job leaves a record its 68 places, whatever its table. Assumes nothing.
 use mathlib.Core.List.{List, [], _∷_}
-use mathlib.Core.Path.{_≡_, refl, _∙_}
+use mathlib.Core.Path.{_≡_, _∙_}
 use Prim.Native.Nat.{ℕ, zero, suc, _+_}
 use lib.Dec.{eqb, ltb}
 use lib.ListN.{length}
@@ -10,15 +10,14 @@ use Rattle.driver.specs.Run.{Run, Report, closes, breaks, sending, taking, run,
 use Rattle.notation.proofs.Cases.{split}
 use Rattle.perlovasta.specs.Job.{requestReport}
 use Rattle.requests.specs.Jobs.{jobFor}
-use Rattle.service.specs.Act.{Act, writes, readsData, readsAll, readsCount, counts, Then, goesOn, awaits, ends, finishes, Work}
+use Rattle.service.specs.Act.{Act, writes, readsData, readsAll, readsCount, counts, Then, goesOn, awaits, ends, finishes}
 use Rattle.service.specs.Act.{put, reads, fetchOne, fetch, readTimes, does, doesAll, follows, performs}
 use Rattle.service.specs.JobSteps.{begins}
 use Rattle.service.specs.JobTable.{jobTable}
 use Rattle.service.specs.Progress.{starting}
 use Rattle.service.specs.Serve.{Table, starts, serve}
-use Rattle.service.specs.declared.job.Job.{Job}
 use Rattle.service.specs.declared.progress.Progress.{Progress}
-use Rattle.virtual_chip.proofs.Places.{Sized, read-sized, write-sized, event-sized}
+use Rattle.virtual_chip.proofs.Places.{read-sized, write-sized, event-sized}
 
 -- the record held has its places
 abbrev Placed : Progress → Type 0

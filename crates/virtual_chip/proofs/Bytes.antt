@@ -1,7 +1,7 @@
 -- The record's bytes, part by part. Assumes nothing.
-use mathlib.Core.Bool.{Bool, true, false, true≢false, false≢true}
-use mathlib.Core.List.{List, _++_}
-use mathlib.Core.Path.{_≡_, refl, sym, ap, _∙_}
+use mathlib.Core.Bool.{Bool, true, false, false≢true}
+use mathlib.Core.List.{List}
+use mathlib.Core.Path.{_≡_, refl}
 use Prim.Native.Nat.{ℕ, _≤_}
 use mir.Val.{boolByte}
 use native.Mathlib.Omega.{arith}
@@ -11,7 +11,7 @@ use lib.ListN.{length, length-replicate}
 use Rattle.control.specs.Flags.{weighs}
 use Rattle.controller.specs.Reset.{resetWith}
 use Rattle.controller.specs.declared.record.Controller.{Controller}
-use Rattle.notation.proofs.Cases.{if-true, if-false, split}
+use Rattle.notation.proofs.Cases.{split}
 use Rattle.notation.proofs.Laid.{laid-append, part-length}
 use Rattle.notation.specs.Choice.{if_then_else_}
 use Rattle.notation.specs.Overlay.{laid, laidAt}

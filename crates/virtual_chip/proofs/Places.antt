@@ -1,6 +1,5 @@
 -- Whatever is asked of a record, it keeps its 68 places. Assumes nothing.
 use mathlib.Core.Bool.{Bool}
-use mathlib.Core.List.{List}
 use mathlib.Core.Path.{_≡_, refl}
 use Prim.Native.Nat.{ℕ}
 use lib.ListN.{length, length-set}

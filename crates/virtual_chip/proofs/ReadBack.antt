@@ -2,7 +2,7 @@
 use mathlib.Core.Bool.{Bool, true, false}
 use mathlib.Core.List.{List, [], _∷_, _++_}
 use mathlib.Core.Path.{_≡_, refl, sym, ap, subst, _∙_}
-use Prim.Native.Nat.{ℕ, _≤_}
+use Prim.Native.Nat.{ℕ}
 use native.Mathlib.Omega.{arith}
 use borrow.Author.Tests.{le-ltb, eqb-false}
 use lib.Dec.{eqb, ltb}
@@ -21,14 +21,14 @@ use Rattle.control.specs.declared.turn.Turn.{Turn}
 use Rattle.controller.specs.Reply.{Outcome}
 use Rattle.controller.specs.Setters.{withBuffer}
 use Rattle.controller.specs.declared.record.Controller.{Controller}
-use Rattle.laws.proofs.Refusals.{Stays, read-stays, write-stays, event-stays}
+use Rattle.laws.proofs.Refusals.{read-stays, write-stays, event-stays}
 use Rattle.notation.proofs.Cases.{if-true, if-false, split}
 use Rattle.notation.proofs.Laid.{laid-whole}
 use Rattle.notation.specs.Choice.{if_then_else_, _and_, _or_}
 use Rattle.notation.specs.Overlay.{laid}
 use Rattle.requests.specs.Groups.{groupOf}
 use Rattle.virtual_chip.proofs.Bytes.{record-long, record-places}
-use Rattle.virtual_chip.proofs.Places.{Sized, group-sized}
+use Rattle.virtual_chip.proofs.Places.{group-sized}
 use Rattle.virtual_chip.specs.Calls.{ChipCall, refusing, packed, replying, accessCall}
 use Rattle.virtual_chip.specs.Numbers.{hostNumber, slaveNumber, turnNumber, isTurn, turnFor, reasonFor}
 use Rattle.virtual_chip.specs.ReadBack.{ReadBack, Group, callsAnswer, rulesAnswer, CallsInTurn}

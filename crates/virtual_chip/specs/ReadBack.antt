@@ -5,11 +5,10 @@ use mathlib.Core.List.{List, [], _∷_}
 use mathlib.Core.Path.{_≡_}
 use Prim.Native.Nat.{ℕ, _≤_}
 use lib.ListN.{length}
-use Rattle.controller.specs.Reply.{Outcome}
 use Rattle.controller.specs.declared.record.Controller.{Controller}
 use Rattle.notation.specs.Overlay.{laid}
 use Rattle.requests.specs.Groups.{groupOf}
-use Rattle.virtual_chip.specs.Calls.{ChipCall, packed, accessCall}
+use Rattle.virtual_chip.specs.Calls.{packed, accessCall}
 use Rattle.virtual_chip.specs.RecordBytes.{bytesOf, isRecord, recordOf}
 
 -- any record of 68 places, sound or not, over whatever the bytes held

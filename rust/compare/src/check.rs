@@ -9,14 +9,12 @@ use perlovasta::{ENTRY_LEN, GROUP_LEN};
 /// Runs the trace on both. True if it was run; the log is then in the case.
 pub fn trace(case: &mut TraceCase) -> Result<bool, Difference> {
     let mut model_log = case.log.clone();
-    let given = (LIBRARY.trace)(&case.trace, &mut case.log);
-    let model_given = (MODEL.trace)(&case.trace, &mut model_log);
-
-    let returned = [u8::from(given), u8::from(model_given)];
+    let answer = (LIBRARY.trace)(&case.trace, &mut case.log);
+    let returned = [answer, (MODEL.trace)(&case.trace, &mut model_log)];
     let library: [Named; 2] = [("returned", &returned[..1]), ("log", &case.log)];
     let model: [Named; 2] = [("returned", &returned[1..]), ("log", &model_log)];
     match first(&library, &model) {
-        None => Ok(given),
+        None => Ok(answer == 0),
         Some(place) => Err(Difference {
             input: groups_until(&case.trace, &case.log, &model_log),
             place,
@@ -38,17 +36,14 @@ fn groups_until(trace: &[u8], library: &[u8], model: &[u8]) -> String {
     text
 }
 
-/// Runs the job on both. True if a report was given; report, destination and out record are then in
-/// the case.
-pub fn job(case: &mut JobCase) -> Result<bool, Difference> {
+/// Runs the job on both: its answer. Report, destination and out record are then in the case.
+pub fn job(case: &mut JobCase) -> Result<u8, Difference> {
     let before = case.clone();
     let mut other = case.clone();
-    let given = call(LIBRARY, case);
-    let model_given = call(MODEL, &mut other);
-    let library = [u8::from(given)];
-    let model = [u8::from(model_given)];
+    let answer = call(LIBRARY, case);
+    let (library, model) = ([answer], [call(MODEL, &mut other)]);
     match first(&written(&library, case), &written(&model, &other)) {
-        None => Ok(given),
+        None => Ok(answer),
         Some(place) => Err(Difference {
             input: describe(&before),
             place,
@@ -56,7 +51,7 @@ pub fn job(case: &mut JobCase) -> Result<bool, Difference> {
     }
 }
 
-fn call(side: Side, case: &mut JobCase) -> bool {
+fn call(side: Side, case: &mut JobCase) -> u8 {
     (side.job)(
         case.kind,
         case.address,
@@ -79,7 +74,8 @@ fn written<'a>(returned: &'a [u8], case: &'a JobCase) -> [Named<'a>; 4] {
     ]
 }
 
-fn describe(case: &JobCase) -> String {
+/// The job in words.
+pub fn describe(case: &JobCase) -> String {
     format!(
         "job of kind {}, address {:02X}, n {}\ndata {}\nscript {}\n\
          destination of {}, out of {}, report of {} bytes",

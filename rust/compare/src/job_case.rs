@@ -3,7 +3,7 @@
 use crate::random::Random;
 use crate::script::random_script;
 use crate::steer::pair;
-use model::{Job, Kind};
+use model::{Controller, Job, Kind};
 use perlovasta::{OUT_LEN, PLACES, REPORT_LEN};
 
 /// A job, and what it is lent as it is before.
@@ -63,9 +63,9 @@ impl Flaw {
 }
 
 impl JobCase {
-    /// A random job; one in six has a flaw, and few have two.
-    pub fn random(random: &mut Random) -> Self {
-        let mut job = Self::well_formed(random);
+    /// A random job for this controller; one in six has a flaw, and few have two.
+    pub fn random(random: &mut Random, on: &Controller) -> Self {
+        let mut job = Self::well_formed(random, on);
         if random.percent(1) {
             let pairs = 200 + random.below(200);
             job.wait(pairs);
@@ -77,7 +77,7 @@ impl JobCase {
         job
     }
 
-    fn well_formed(random: &mut Random) -> Self {
+    fn well_formed(random: &mut Random, on: &Controller) -> Self {
         let kind = random.below(2) as u8;
         let any = 1 + random.below(PLACES) as u8;
         let n = random.pick(&[1, 2, 8, 67, 68, any]);
@@ -97,13 +97,13 @@ impl JobCase {
             out: random.bytes(OUT_LEN + longer),
             report: random.bytes(REPORT_LEN + longer),
         };
-        job.script = random_script(random, &job.of_the_model());
+        job.script = random_script(random, &job.of_the_model(), on);
         job
     }
 
-    /// A job that takes more pairs than two bytes tell.
-    pub fn long(random: &mut Random) -> Self {
-        let mut job = Self::well_formed(random);
+    /// A job for this controller that takes more pairs than two bytes tell.
+    pub fn long(random: &mut Random, on: &Controller) -> Self {
+        let mut job = Self::well_formed(random, on);
         job.wait(0x1_0000);
         job
     }

@@ -25,6 +25,7 @@ pub mod lying;
 pub mod rule;
 pub mod sections;
 pub mod settings;
+pub mod step;
 pub mod tally;
 pub mod told;
 pub mod traffic;

@@ -5,6 +5,9 @@ use crate::pointer_byte::PointerByte;
 use model::{Called, Controller, Edge, Job, Kind, Refusal, Report, Turn, run_job};
 use perlovasta::{ENTRY_LEN, GROUP_LEN, REPORT_LEN};
 
+/// The answer of a job that is itself wrong, and of a trace that is not run.
+const MALFORMED: u8 = 21;
+
 /// What `perlovasta::sys::job` gives, by the model.
 #[expect(
     clippy::too_many_arguments,
@@ -19,9 +22,42 @@ pub fn job(
     out: &mut [u8],
     script: &[u8],
     report: &mut [u8],
-) -> bool {
+) -> u8 {
+    if report.len() < REPORT_LEN {
+        return MALFORMED;
+    }
+    job_on(
+        &mut enabled(),
+        kind,
+        address,
+        n,
+        data,
+        destination,
+        out,
+        script,
+        report,
+    )
+}
+
+/// The same on this controller.
+#[expect(
+    clippy::too_many_arguments,
+    reason = "they are those of `perlovasta::sys::job`, and the controller"
+)]
+#[inline]
+pub fn job_on(
+    controller: &mut Controller,
+    kind: u8,
+    address: u8,
+    n: u8,
+    data: &[u8],
+    destination: &mut [u8],
+    out: &mut [u8],
+    script: &[u8],
+    report: &mut [u8],
+) -> u8 {
     let Some(report) = report.first_chunk_mut() else {
-        return false;
+        return MALFORMED;
     };
     *report = match kind_of(kind) {
         Some(kind) => {
@@ -31,12 +67,12 @@ pub fn job(
                 n,
                 data,
             };
-            written(run_job(&mut enabled(), &job, destination, out, script))
+            written(run_job(controller, &job, destination, out, script))
         }
-        // Of another kind: 21, and nothing is done.
-        None => [21, 0, 0, 0, 0, 0, 0, 0, 0, 0, 0, 0],
+        // Of another kind: nothing is done.
+        None => [MALFORMED, 0, 0, 0, 0, 0, 0, 0, 0, 0, 0, 0],
     };
-    true
+    report[0]
 }
 
 fn kind_of(number: u8) -> Option<Kind> {
@@ -67,19 +103,19 @@ fn written(report: Report) -> [u8; REPORT_LEN] {
 }
 
 /// What `perlovasta::sys::trace` gives, by the model.
-pub fn trace(trace: &[u8], log: &mut [u8]) -> bool {
+pub fn trace(trace: &[u8], log: &mut [u8]) -> u8 {
     let (groups, rest) = trace.as_chunks::<GROUP_LEN>();
     let (entries, _) = log.as_chunks_mut::<ENTRY_LEN>();
     let whole = rest.is_empty() && groups.iter().all(|group| group[0] <= 2);
     if !whole || entries.len() < groups.len() {
-        return false;
+        return MALFORMED;
     }
     let mut controller = Controller::fresh();
     for (&group, place) in groups.iter().zip(entries) {
         let answer = step(&mut controller, group);
         *place = entry(answer, &controller);
     }
-    true
+    0
 }
 
 /// Gives the controller one group of a trace.

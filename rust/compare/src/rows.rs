@@ -4,11 +4,13 @@
 //! has to do for the call itself is in every row of a job, and alone in the last row, so that it
 //! can be taken off.
 
-use crate::group::{CONTROL, Group, event, write};
+use crate::group::{self, CONTROL, Group, event, write};
 use crate::random::Random;
 use crate::row::{Call, Expected, Row};
 use crate::trace_case::steered;
 
+/// Register 0 when read: I2CSTA.
+const STATUS: u8 = 0;
 /// The groups of a trace that is timed.
 const GROUPS: usize = 8192;
 
@@ -19,7 +21,8 @@ pub const ILLEGAL_EDGE: [u8; 2] = [10, 0];
 
 /// All rows.
 pub fn rows() -> Vec<Row<'static>> {
-    [jobs(), jobs_that_wait(), traces(), vec![bare()]].concat()
+    let rows = [jobs(), jobs_that_wait(), traces(), on_a_chip()];
+    [rows.concat(), vec![bare()]].concat()
 }
 
 fn jobs() -> Vec<Row<'static>> {
@@ -67,6 +70,24 @@ fn traces() -> Vec<Row<'static>> {
     ]
 }
 
+/// On a virtual chip, whose record is read from its bytes and stored there at every call.
+fn on_a_chip() -> Vec<Row<'static>> {
+    let accesses = |name, groups: &[Group], refusal| {
+        let expected = Expected::Reply(refusal);
+        Row::new(name, Call::Accesses, groups.concat(), expected)
+    };
+    let (events, _) = TRAFFIC.as_chunks::<2>();
+    let events: Vec<Group> = events.iter().map(|&pair| event(pair)).collect();
+    let job = Call::ChipRead(8);
+    vec![
+        accesses("chip: I2CSTA read", &[group::read(STATUS)], 0),
+        accesses("chip: I2CCON written", &[write(CONTROL, 0x40)], 0),
+        accesses("chip: events of another master", &events, 0),
+        accesses("chip: event refused", &[event([4, 0])], 8),
+        Row::new("chip: read of 8", job, read(8), Expected::Answer(0)),
+    ]
+}
+
 /// What the call itself takes, with nothing done.
 fn bare() -> Row<'static> {
     let name = "bare call: a job whose report is too short";
@@ -89,4 +110,18 @@ fn refused() -> Vec<Group> {
     let events = unexpected.into_iter().cycle();
     let enabled = [write(CONTROL, 0x40)];
     enabled.into_iter().chain(events).take(GROUPS).collect()
+}
+
+#[cfg(test)]
+mod tests {
+    use super::on_a_chip;
+    use crate::side::{LIBRARY, MODEL};
+
+    #[test]
+    fn a_chip_can_be_asked_again() {
+        for row in on_a_chip() {
+            row.calls(LIBRARY, 3);
+            row.calls(MODEL, 3);
+        }
+    }
 }

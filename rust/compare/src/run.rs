@@ -4,6 +4,7 @@ use crate::check;
 use crate::difference::Difference;
 use crate::job_case::JobCase;
 use crate::random::Random;
+use crate::reference::enabled;
 use crate::tally::Tally;
 use crate::trace_case::{Flaw, TraceCase};
 
@@ -14,7 +15,7 @@ const JOBS: usize = 6;
 pub fn compare(seed: u64, least: u64) -> Result<Tally, Difference> {
     let mut random = Random::new(seed);
     let mut tally = Tally::new();
-    compare_job(JobCase::long(&mut random), &mut tally)?;
+    compare_job(JobCase::long(&mut random, &enabled()), &mut tally)?;
     // The pairs of the long job are all alike, and count for nothing here.
     let least = least + tally.total();
     while tally.total() < least {
@@ -23,7 +24,7 @@ pub fn compare(seed: u64, least: u64) -> Result<Tally, Difference> {
             tally.count_trace(&case.trace, &case.log);
         }
         for _ in 0..JOBS {
-            compare_job(JobCase::random(&mut random), &mut tally)?;
+            compare_job(JobCase::random(&mut random, &enabled()), &mut tally)?;
         }
         let flaw = random.pick(&[Flaw::Length, Flaw::Kind, Flaw::Log]);
         let mut case = TraceCase::flawed(&mut random, flaw);
@@ -35,7 +36,7 @@ pub fn compare(seed: u64, least: u64) -> Result<Tally, Difference> {
 }
 
 fn compare_job(mut case: JobCase, tally: &mut Tally) -> Result<(), Difference> {
-    let given = check::job(&mut case)?;
-    tally.count_job(&case, given);
+    let answer = check::job(&mut case)?;
+    tally.count_job(&case, answer);
     Ok(())
 }

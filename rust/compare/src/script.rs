@@ -1,15 +1,15 @@
 //! The script of a random job, steered by the model's driver.
 
 use crate::random::Random;
-use crate::reference::enabled;
 use crate::steer::pair;
 use model::{Answer, Controller, Job, OUT_LENGTH, PLACES, run_job};
 
 /// The most pairs of a steered script.
 const LONGEST: usize = 120;
 
-/// Pairs that lead the job to an answer, mostly, and at times some that nobody looks at.
-pub fn random_script(random: &mut Random, job: &Job) -> Vec<u8> {
+/// Pairs that lead the job on this controller to an answer, mostly, and at times some that nobody
+/// looks at.
+pub fn random_script(random: &mut Random, job: &Job, on: &Controller) -> Vec<u8> {
     if random.percent(3) {
         let pairs = random.below(6);
         return random.bytes(2 * pairs);
@@ -20,7 +20,7 @@ pub fn random_script(random: &mut Random, job: &Job) -> Vec<u8> {
     let most = random.pick(&[LONGEST, LONGEST, LONGEST, early]);
     let mut script = Vec::new();
     while script.len() < 2 * most {
-        let Some(controller) = standing(job, &script) else {
+        let Some(controller) = standing(job, on, &script) else {
             break;
         };
         script.extend(pair::next(&controller, random, noise));
@@ -33,8 +33,8 @@ pub fn random_script(random: &mut Random, job: &Job) -> Vec<u8> {
 }
 
 /// The controller where the script leaves the job, if the job lasts.
-fn standing(job: &Job, script: &[u8]) -> Option<Controller> {
-    let mut controller = enabled();
+fn standing(job: &Job, on: &Controller, script: &[u8]) -> Option<Controller> {
+    let mut controller = on.clone();
     let mut destination = [0; PLACES as usize];
     let mut out = [0; OUT_LENGTH];
     let report = run_job(&mut controller, job, &mut destination, &mut out, script);

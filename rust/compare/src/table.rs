@@ -53,13 +53,23 @@ impl Section {
     }
 }
 
+/// Prints the table and what occurred too seldom. Whether nothing did.
+pub fn show(sections: &[Section]) -> bool {
+    print!("{}", text(sections));
+    let missing = missing(sections);
+    for thing in &missing {
+        println!("never, or not all: {thing}");
+    }
+    missing.is_empty()
+}
+
 /// The widest line.
 const WIDTH: usize = 110;
 /// Where the cells begin.
 const INDENT: usize = 19;
 
 /// The table as text.
-pub fn text(sections: &[Section]) -> String {
+fn text(sections: &[Section]) -> String {
     let mut text = String::new();
     for section in sections {
         let mut title = section.title;

@@ -1,20 +1,28 @@
 //! The port: the driver of one chip, and what it remembers.
 
-use crate::{STATE_LEN, Step, sys};
+use crate::{Address, Answer, Bytes, PLACES, STATE_LEN, Setting, Step, sys};
 use core::fmt;
 
-/// The most settings that a recovery takes.
-const SETTINGS: usize = 6;
+/// Kinds of a job.
+const WRITE: u8 = 0;
+const READ: u8 = 1;
 /// A number of data bytes that no job has, for all that are more than a byte can tell.
 const TOO_MANY: u8 = u8::MAX;
 
-/// The driver of one chip. It makes no access itself: each method gives the [`Step`] that the board
-/// has to do next.
+/// The driver of one chip.
 ///
-/// A new one answers 22 to every job, until a [recovery](Port::recover) was run to its end. One is
+/// [`recover`](Port::recover), [`read`](Port::read) and [`write`](Port::write) do a whole job on a
+/// [`Board`](crate::Board). Below them stand the steps, for a board with a loop of its own:
+/// [`start_recover`](Port::start_recover), [`start_read`](Port::start_read) or
+/// [`start_write`](Port::start_write) gives the [`Step`] that the board has to do, and
+/// [`next`](Port::next) the one after it, until it is over; [`take`](Port::take) gives the bytes.
+///
+/// A new one answers [`Answer::NotReady`] to every job, until a recovery was run to its end. One is
 /// for one chip, and there is no copy of it: an old one would not know what the chip is doing.
 pub struct Port {
     state: [u8; STATE_LEN],
+    /// How many bytes the last read is of.
+    n: u8,
 }
 
 impl Port {
@@ -23,40 +31,42 @@ impl Port {
     pub const fn new() -> Self {
         Port {
             state: [0; STATE_LEN],
+            n: 0,
         }
     }
 
     /// The chip is brought back, whatever it was doing: a software reset, the settings, 40h to
-    /// I2CCON, and a pause. It is over with 0, or at once with 21 for more than six settings or one
-    /// of another register.
-    ///
-    /// A setting is a pointer and a value: 00h I2CCOUNT, 01h I2CADR, 06h I2CMODE (the data sheet
-    /// wants it before the next two), 02h I2CSCLL, 03h I2CSCLH, 04h I2CTO.
-    pub fn recover(&mut self, settings: &[(u8, u8)]) -> Step {
+    /// I2CCON, and a pause. It is over at once with [`Answer::Malformed`] for more than
+    /// [six](Setting::MOST) settings.
+    pub fn start_recover(&mut self, settings: &[Setting]) -> Step {
         // One more than the library takes: it says what too many are answered.
-        let mut pairs = [[0; 2]; SETTINGS + 1];
+        let mut pairs = [[0; 2]; Setting::MOST + 1];
         let given = settings.len().min(pairs.len());
-        for (pair, &(pointer, value)) in pairs.iter_mut().zip(settings) {
-            *pair = [pointer, value];
+        for (pair, setting) in pairs.iter_mut().zip(settings) {
+            *pair = setting.pair();
         }
         let settings = pairs[..given].as_flattened();
         step(sys::recover(&mut self.state, settings))
     }
 
-    /// A read of `n` bytes, 1 to 68, from this seven-bit address, 08h to 77h, begins.
+    /// A read of `n` bytes, 1 to 68, from this address begins.
     ///
-    /// It is over at once with 21 for any other, and with 22 if a recovery has to come first.
-    pub fn start_read(&mut self, address: u8, n: u8) -> Step {
-        step(sys::start(&mut self.state, 1, address, n, &[]))
+    /// It is over at once with [`Answer::Malformed`] for any other `n`, and with
+    /// [`Answer::NotReady`] if a recovery has to come first.
+    pub fn start_read(&mut self, address: Address, n: usize) -> Step {
+        self.n = u8::try_from(n).unwrap_or(TOO_MANY);
+        let address = address.number();
+        step(sys::start(&mut self.state, READ, address, self.n, &[]))
     }
 
-    /// A write of these bytes, 1 to 68, to this seven-bit address, 08h to 77h, begins. They are
-    /// copied now.
+    /// A write of these bytes, 1 to 68, to this address begins. They are copied now.
     ///
-    /// It is over at once with 21 for any other, and with 22 if a recovery has to come first.
-    pub fn start_write(&mut self, address: u8, data: &[u8]) -> Step {
+    /// It is over at once with [`Answer::Malformed`] for any other number of them, and with
+    /// [`Answer::NotReady`] if a recovery has to come first.
+    pub fn start_write(&mut self, address: Address, data: &[u8]) -> Step {
         let n = u8::try_from(data.len()).unwrap_or(TOO_MANY);
-        step(sys::start(&mut self.state, 0, address, n, data))
+        let address = address.number();
+        step(sys::start(&mut self.state, WRITE, address, n, data))
     }
 
     /// The next step. `value` is what the register read of the last step gave; it is not looked at
@@ -65,24 +75,24 @@ impl Port {
         step(sys::next(&mut self.state, value))
     }
 
-    /// The caller's clock ran out. It is over with 27, whatever was under way, and no job begins
-    /// until a [recovery](Port::recover) was run to its end.
+    /// The board's clock ran out. It is over with [`Answer::Unfinished`], whatever was under way,
+    /// and no job begins until a recovery was run to its end.
     pub fn give_up(&mut self) -> Step {
         step(sys::give_up(&mut self.state))
     }
 
-    /// The bytes of a finished read go to the first `n` bytes of the destination, and its rest
-    /// stays.
+    /// The bytes of a finished read. They are given once and are gone from the port then: a second
+    /// time it is [`Answer::Malformed`].
     ///
     /// # Errors
     ///
-    /// Nothing is written if it is not over, 27; if it was no read, or the destination is shorter
-    /// than `n`, 21; or if the read was not answered 0, with its answer.
-    #[must_use = "nothing was taken unless it is `Ok`"]
-    pub fn take(&self, destination: &mut [u8]) -> Result<(), u8> {
-        match sys::take(&self.state, destination) {
-            0 => Ok(()),
-            why => Err(why),
+    /// If it is not over, [`Answer::Unfinished`]; if it was no read, [`Answer::Malformed`]; or if
+    /// the read was not done, its answer.
+    pub fn take(&mut self) -> Result<Bytes, Answer> {
+        let mut bytes = [0; PLACES];
+        match answer(sys::take(&mut self.state, &mut bytes)) {
+            Answer::Done => Ok(Bytes::first(bytes, usize::from(self.n))),
+            why_not => Err(why_not),
         }
     }
 }
@@ -107,4 +117,13 @@ impl fmt::Debug for Port {
 /// For a number that is no step; the library is proved not to give one.
 fn step(number: u32) -> Step {
     Step::from_number(number).expect("the library gives a step")
+}
+
+/// The answer of this number.
+///
+/// # Panics
+///
+/// For a number that is no answer; the library is proved not to give one.
+fn answer(number: u8) -> Answer {
+    Answer::from_number(number).expect("the library gives an answer")
 }

@@ -29,7 +29,7 @@ mod c {
         pub(super) fn perlovasta_give_up(state: *mut u8, state_len: usize) -> u32;
 
         pub(super) fn perlovasta_take(
-            state: *const u8,
+            state: *mut u8,
             state_len: usize,
             destination: *mut u8,
             destination_len: usize,
@@ -84,14 +84,14 @@ pub fn give_up(state: &mut [u8]) -> u32 {
     unsafe { c::perlovasta_give_up(state.as_mut_ptr(), state.len()) }
 }
 
-/// The bytes of a finished read go to the first `n` bytes of the destination, and it is 0. Else
-/// nothing is written, and it says why.
+/// The bytes of a finished read go to the first `n` bytes of the destination, are gone from the
+/// state, and it is 0. Else nothing is written, and it says why.
 #[must_use]
-pub fn take(state: &[u8], destination: &mut [u8]) -> u8 {
-    // SAFETY: as in `start`; the library does not write to the state here.
+pub fn take(state: &mut [u8], destination: &mut [u8]) -> u8 {
+    // SAFETY: as in `start`.
     unsafe {
         c::perlovasta_take(
-            state.as_ptr(),
+            state.as_mut_ptr(),
             state.len(),
             destination.as_mut_ptr(),
             destination.len(),

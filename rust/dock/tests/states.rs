@@ -1,9 +1,10 @@
 //! The functions of `sys`: states that are too short or too long, and that a port is one of 148.
 
-use perlovasta_dock::{Port, STATE_LEN, Step, sys};
+use perlovasta_dock::{Address, Answer, Port, Register, STATE_LEN, Setting, Step, sys};
 
 /// Over with this answer, and count 0.
 fn over(answer: u8) -> Option<Step> {
+    let answer = Answer::from_number(answer).expect("an answer");
     Some(Step::Over { answer, count: 0 })
 }
 
@@ -20,7 +21,7 @@ fn short_states() {
         ];
         assert_eq!(steps.map(Step::from_number), [over(21); 5]);
         let mut destination = [0xEE; 68];
-        assert_eq!(sys::take(&state, &mut destination), 21);
+        assert_eq!(sys::take(&mut state, &mut destination), 21);
         assert_eq!(destination, [0xEE; 68]);
         assert!(state.iter().all(|&byte| byte == 0x55));
     }
@@ -36,7 +37,8 @@ fn the_rest_of_a_long_state_stays() {
             step = sys::next(&mut state, 0x55);
         }
         let begun = Step::from_number(sys::start(&mut state, 0, 0x50, 1, &[9]));
-        assert_eq!(begun, Some(Step::Read { register: 3 }));
+        let register = Register::Control;
+        assert_eq!(begun, Some(Step::Read { register }));
         assert!(state[STATE_LEN..].iter().all(|&byte| byte == 0x55));
     }
 }
@@ -71,8 +73,12 @@ impl Bytes {
     /// A value for the next step after this one: often what a register has in a job.
     fn value(&mut self, after: Step) -> u8 {
         let often: &[u8] = match after {
-            Step::Read { register: 0 } => &[0xF8, 0x08, 0x18, 0x28, 0x40, 0x58],
-            Step::Read { register: 3 } => &[0x40, 0x48, 0x49],
+            Step::Read {
+                register: Register::Status,
+            } => &[0xF8, 0x08, 0x18, 0x28, 0x40, 0x58],
+            Step::Read {
+                register: Register::Control,
+            } => &[0x40, 0x48, 0x49],
             _ => &[],
         };
         if often.is_empty() || self.next() < 4 {
@@ -82,23 +88,37 @@ impl Bytes {
     }
 }
 
+/// A random setting.
+fn setting(bytes: &mut Bytes) -> Setting {
+    let settings = [
+        Setting::Count,
+        Setting::OwnAddress,
+        Setting::ClockLow,
+        Setting::ClockHigh,
+        Setting::TimeOut,
+        Setting::BusMode,
+    ];
+    settings[usize::from(bytes.next()) % settings.len()](bytes.next())
+}
+
 /// One random call of a port that is at this step, and the same of a state.
 fn call(bytes: &mut Bytes, at: Step, port: &mut Port, state: &mut [u8]) -> (Step, u32) {
-    let (address, n) = (8 + bytes.next() % 120, bytes.next() % 80);
+    let (address, n) = (8 + bytes.next() % 112, bytes.next() % 80);
+    let device = Address::new(address).expect("a device's address");
     match (bytes.next(), at) {
         (0, _) => (port.give_up(), sys::give_up(state)),
         (1, _) | (..64, Step::Over { .. }) => {
-            let settings = vec![(bytes.next() % 8, bytes.next()); usize::from(n % 8)];
-            let flat: Vec<u8> = settings.iter().flat_map(|&(p, v)| [p, v]).collect();
-            (port.recover(&settings), sys::recover(state, &flat))
+            let settings: Vec<Setting> = (0..n % 8).map(|_| setting(bytes)).collect();
+            let flat: Vec<u8> = settings.iter().flat_map(|setting| setting.pair()).collect();
+            (port.start_recover(&settings), sys::recover(state, &flat))
         }
         (2, _) | (..160, Step::Over { .. }) => {
-            let step = port.start_read(address, n);
+            let step = port.start_read(device, n.into());
             (step, sys::start(state, 1, address, n, &[]))
         }
         (3, _) | (.., Step::Over { .. }) => {
             let data = vec![bytes.next(); n.into()];
-            let step = port.start_write(address, &data);
+            let step = port.start_write(device, &data);
             (step, sys::start(state, 0, address, n, &data))
         }
         _ => {
@@ -106,6 +126,23 @@ fn call(bytes: &mut Bytes, at: Step, port: &mut Port, state: &mut [u8]) -> (Step
             (port.next(value), sys::next(state, value))
         }
     }
+}
+
+/// The port's bytes are those that the state gives, and once.
+fn take(port: &mut Port, state: &mut [u8], n: u8) -> bool {
+    let mut bytes = [0xEE; 68];
+    let why_not = sys::take(state, &mut bytes);
+    let taken = port.take();
+    if why_not != 0 {
+        assert_eq!(taken.map_err(Answer::number), Err(why_not));
+        return false;
+    }
+    assert_eq!(taken.as_deref(), Ok(&bytes[..n.into()]));
+    assert!(bytes[n.into()..].iter().all(|&byte| byte == 0xEE));
+    assert_eq!(port.take(), Err(Answer::Malformed));
+    assert_eq!(sys::take(state, &mut bytes), 21);
+    assert_eq!(Step::from_number(sys::next(state, 0)), over(21));
+    true
 }
 
 #[test]
@@ -117,11 +154,11 @@ fn a_port_is_a_state() {
     for _ in 0..200_000 {
         let (next, number) = call(&mut bytes, step, &mut port, &mut state);
         assert_eq!(Some(next), Step::from_number(number));
-        let (mut one, mut other) = ([0xEE; 68], [0xEE; 68]);
-        let why_not = sys::take(&state, &mut other);
-        assert_eq!(port.take(&mut one).err().unwrap_or(0), why_not);
-        assert_eq!(one, other);
-        taken += u32::from(why_not == 0);
+        let n = match next {
+            Step::Over { count, .. } => count,
+            _ => 0,
+        };
+        taken += u32::from(take(&mut port, &mut state, n));
         step = next;
     }
     assert!(taken > 50, "{taken}");

@@ -3,6 +3,9 @@
 
 mod con;
 mod events;
+mod record;
+
+pub use record::Record;
 
 use crate::address::Address;
 use crate::reason::Reason;
@@ -24,6 +27,9 @@ mod bit {
     pub(super) const SI: u8 = 1 << 3;
     pub(super) const MODE: u8 = 1 << 0;
 }
+
+/// The bits of I2CCON that a record holds.
+const STORED: u8 = bit::AA | bit::ENSIO | bit::STA | bit::STO | bit::MODE;
 
 /// Numbers of the indirect registers.
 mod pointer {

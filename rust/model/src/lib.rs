@@ -20,7 +20,7 @@ mod turn;
 
 pub use address::{Address, Direction};
 pub use call::{Call, Matched};
-pub use controller::{Controller, PLACES};
+pub use controller::{Controller, PLACES, Record};
 pub use driver::{Answer, Job, Kind, OUT_LENGTH, Report, run_job};
 pub use reason::Reason;
 pub use refusal::Refusal;

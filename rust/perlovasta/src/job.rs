@@ -1,113 +1,173 @@
-//! One job on a fresh controller.
+//! Jobs as the library takes them, and what it told.
 
-use crate::{Answer, REPORT_LEN, sys};
+use crate::{Address, Answer, Argument, Bytes, Event, JobError, OUT_LEN, PLACES, REPORT_LEN};
+use crate::{Refusal, sys};
+use alloc::vec::Vec;
 
-/// Which way a job's data go.
-#[derive(Clone, Copy, Debug, PartialEq, Eq, Hash)]
-pub enum Kind {
-    /// The job sends its data.
-    Write,
-    /// The job fills its destination.
-    Read,
+/// The bytes that a job sent, the address byte first.
+type Sent = Bytes<OUT_LEN>;
+
+/// Kinds of a job.
+const WRITE: u8 = 0;
+const READ: u8 = 1;
+/// A number of data bytes that no job has, for all that are more than a byte can tell.
+const TOO_MANY: u8 = u8::MAX;
+
+/// A job.
+pub(crate) struct Job<'a> {
+    kind: u8,
+    address: Address,
+    n: u8,
+    data: &'a [u8],
+    script: Vec<u8>,
+    /// What is wrong if it is answered 21: nothing else can be.
+    doubtful: Argument,
 }
 
-impl Kind {
-    /// The number of the kind.
-    pub const fn number(self) -> u8 {
-        match self {
-            Kind::Write => 0,
-            Kind::Read => 1,
+/// What a job that is done hands back.
+pub(crate) struct Done {
+    pub(crate) bytes: Bytes,
+    pub(crate) sent: Sent,
+    pub(crate) events: usize,
+}
+
+/// What the library wrote.
+struct Lent {
+    destination: [u8; PLACES],
+    out: [u8; OUT_LEN],
+    report: [u8; REPORT_LEN],
+}
+
+impl<'a> Job<'a> {
+    /// A read of so many bytes.
+    pub(crate) fn read(address: Address, n: usize, script: &[Event]) -> Self {
+        Job {
+            kind: READ,
+            address,
+            n: u8::try_from(n).unwrap_or(TOO_MANY),
+            data: &[],
+            script: pairs(script),
+            doubtful: Argument::Count(n),
+        }
+    }
+
+    /// A write of these bytes.
+    pub(crate) fn write(address: Address, data: &'a [u8], script: &[Event]) -> Self {
+        Job {
+            kind: WRITE,
+            address,
+            n: u8::try_from(data.len()).unwrap_or(TOO_MANY),
+            data,
+            script: pairs(script),
+            doubtful: Argument::Data(data.len()),
+        }
+    }
+
+    /// Runs it on a fresh controller that is enabled.
+    pub(crate) fn run(&self) -> Result<Done, JobError> {
+        let mut lent = Lent::new();
+        let answer = sys::job(
+            self.kind,
+            self.address.number(),
+            self.n,
+            self.data,
+            &mut lent.destination,
+            &mut lent.out,
+            &self.script,
+            &mut lent.report,
+        );
+        self.told(answer, lent)
+    }
+
+    /// Runs it on the controller in these bytes.
+    pub(crate) fn run_on(&self, chip: &mut [u8]) -> Result<Done, JobError> {
+        let mut lent = Lent::new();
+        let answer = sys::chip_job(
+            chip,
+            self.kind,
+            self.address.number(),
+            self.n,
+            self.data,
+            &mut lent.destination,
+            &mut lent.out,
+            &self.script,
+            &mut lent.report,
+        );
+        self.told(answer, lent)
+    }
+
+    /// What came of it.
+    ///
+    /// # Panics
+    ///
+    /// For numbers that no job is answered with; the library is proved not to give them.
+    fn told(&self, answer: u8, lent: Lent) -> Result<Done, JobError> {
+        let [number, beside, count, sent, events @ ..] = lent.report;
+        assert_eq!(answer, number, "the answer is the report's first byte");
+        let answer = Answer::from_number(number);
+        let answer = answer.unwrap_or_else(|| panic!("no job is answered {number}"));
+        let sent = Sent::first(lent.out, usize::from(sent));
+        let events = usize::try_from(u64::from_le_bytes(events)).expect("pairs of a slice fit");
+        if answer == Answer::Done {
+            // A write hands no bytes up.
+            let handed = if self.kind == READ { count } else { 0 };
+            let bytes = Bytes::first(lent.destination, usize::from(handed));
+            return Ok(Done {
+                bytes,
+                sent,
+                events,
+            });
+        }
+        Err(JobError {
+            answer,
+            argument: (answer == Answer::Malformed).then_some(self.doubtful),
+            refusal: Refusal::from_number(beside),
+            moved: count,
+            sent,
+            events,
+        })
+    }
+}
+
+impl Lent {
+    const fn new() -> Self {
+        Lent {
+            destination: [0; PLACES],
+            out: [0; OUT_LEN],
+            report: [0; REPORT_LEN],
         }
     }
 }
 
-/// What a job reports beside the bytes it handed up.
-#[derive(Clone, Copy, Debug, PartialEq, Eq, Hash)]
-pub struct Report<'a> {
-    /// How the job ended.
-    pub answer: Answer,
-    /// `n` for [`Answer::Done`]; for [`Answer::DataNacked`] the data bytes moved, with the one not
-    /// acknowledged; else 0.
-    pub count: u8,
-    /// The bytes sent, the address byte first: what the out record begins with.
-    pub sent: &'a [u8],
-    /// The pairs taken; a refused pair is not counted.
-    pub events: usize,
-}
-
-/// Runs one job on a fresh controller that is enabled.
-///
-/// - `address` is the seven-bit address, 08h to 77h, and `n`, 1 to 68, how many data bytes.
-/// - `data` has at least `n` bytes for a write; a read does not look at it.
-/// - `destination` has at least `n` bytes for a read. Its first `n` bytes are written for
-///   [`Answer::Done`] of a read and never otherwise.
-/// - `out` has at least [`OUT_LEN`](crate::OUT_LEN) bytes. It begins with the bytes sent, which the
-///   report shows, and its rest stays.
-/// - `script` is pairs (event, argument), taken while the job lasts.
-///
-/// Anything else is answered [`Answer::Malformed`] and changes nothing.
-pub fn run_job<'a>(
-    kind: Kind,
-    address: u8,
-    n: u8,
-    data: &[u8],
-    destination: &mut [u8],
-    out: &'a mut [u8],
-    script: &[u8],
-) -> Report<'a> {
-    let mut report = [0; REPORT_LEN];
-    let kind = kind.number();
-    let given = sys::job(
-        kind,
-        address,
-        n,
-        data,
-        destination,
-        out,
-        script,
-        &mut report,
-    );
-    assert!(given, "the library took a report of 12 bytes for too short");
-    typed(report, out)
-}
-
-/// The report in its twelve bytes, of a job with this out record after it.
-///
-/// # Panics
-///
-/// For numbers that no answer has, and for more bytes sent than the out record holds; the library
-/// is proved not to give them.
-fn typed(report: [u8; REPORT_LEN], out: &[u8]) -> Report<'_> {
-    let [number, beside, count, sent, events @ ..] = report;
-    let answer = Answer::from_numbers(number, beside);
-    Report {
-        answer: answer.unwrap_or_else(|| panic!("no job is answered {number} beside {beside}")),
-        count,
-        sent: &out[..usize::from(sent)],
-        events: usize::try_from(u64::from_le_bytes(events)).expect("pairs of a slice fit"),
-    }
+fn pairs(script: &[Event]) -> Vec<u8> {
+    script.iter().flat_map(|event| event.pair()).collect()
 }
 
 #[cfg(test)]
 mod tests {
-    use super::{Report, typed};
-    use crate::Answer;
+    use super::{Job, Lent};
+    use crate::{Address, Answer};
 
-    #[test]
-    fn low_byte_comes_first() {
-        let report = typed([24, 0, 5, 6, 0x34, 0x12, 0, 0, 0, 0, 0, 0], &[7; 69]);
-        let expected = Report {
-            answer: Answer::DataNacked,
-            count: 5,
-            sent: &[7; 6],
-            events: 0x1234,
-        };
-        assert_eq!(report, expected);
+    fn lent(report: [u8; 12]) -> Lent {
+        Lent {
+            report,
+            ..Lent::new()
+        }
     }
 
     #[test]
-    #[should_panic(expected = "no job is answered 20 beside 0")]
+    fn low_byte_comes_first() {
+        let job = Job::read(Address::FIRST, 1, &[]);
+        let report = [24, 0, 5, 6, 0x34, 0x12, 0, 0, 0, 0, 0, 0];
+        let error = job.told(24, lent(report)).err().unwrap();
+        assert_eq!((error.answer(), error.moved()), (Answer::DataNacked, 5));
+        assert_eq!((error.sent(), error.events()), (&[0; 6][..], 0x1234));
+    }
+
+    #[test]
+    #[should_panic(expected = "no job is answered 20")]
     fn unknown_number() {
-        typed([20, 0, 0, 0, 0, 0, 0, 0, 0, 0, 0, 0], &[]);
+        let job = Job::read(Address::FIRST, 1, &[]);
+        let _ = job.told(20, lent([20, 0, 0, 0, 0, 0, 0, 0, 0, 0, 0, 0]));
     }
 }

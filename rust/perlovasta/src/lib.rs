@@ -1,56 +1,139 @@
 //! Safe interface to the proved model of the PCA9665 I2C controller and the driver on top of it.
 //!
-//! [`run_job`] runs one read or write job on a fresh controller against a script of bus events,
-//! and [`run_trace`] a list of register accesses and bus events. Neither keeps anything from one
-//! call to the next.
+//! [`read()`] and [`write()`] run one job on a fresh controller against a script of bus events, and
+//! [`trace`] a list of register accesses and bus events; they keep nothing from one call to the
+//! next. A [`VirtualChip`] is a controller that is held for as long as one likes.
 //!
 //! # A badge is read
 //!
-//! The reader stands at address 50h, and a badge has eight bytes. The script is what the bus does,
-//! in pairs of an event and its argument: own START, the address byte acknowledged, eight bytes in,
-//! own STOP.
+//! The reader stands at address 50h, and a badge has eight bytes. The script is what the bus does:
+//! own START, the address byte acknowledged, eight bytes in, own STOP.
 //!
 //! ```
-//! use perlovasta::{Answer, Kind, OUT_LEN, run_job};
+//! use perlovasta::{Acknowledge, Address, Event};
 //!
-//! let script = [
-//!     1, 0, 6, 0, 7, 0x04, 7, 0xA2, 7, 0x19, 7, 0x6E, 7, 0x35, 7, 0x80, 7, 0x00, 7, 0x5C, 4, 0,
-//! ];
-//! let mut badge = [0; 8];
-//! let mut out = [0; OUT_LEN];
-//! let report = run_job(Kind::Read, 0x50, 8, &[], &mut badge, &mut out, &script);
+//! let reader = Address::new(0x50)?;
+//! let mut script = vec![Event::OwnStart, Event::ByteOut(Acknowledge::Ack)];
+//! script.extend([0x04, 0xA2, 0x19, 0x6E, 0x35, 0x80, 0x00, 0x5C].map(Event::ByteIn));
+//! script.push(Event::OwnStop);
 //!
-//! assert_eq!(report.answer, Answer::Done);
-//! assert_eq!((report.count, report.events), (8, 11));
-//! assert_eq!(badge, [0x04, 0xA2, 0x19, 0x6E, 0x35, 0x80, 0x00, 0x5C]);
-//! assert_eq!(report.sent, [0xA1]); // the address byte: 2 x 50h + 1, for a read
+//! let badge = perlovasta::read(reader, 8, &script)?;
+//! assert_eq!(*badge, [0x04, 0xA2, 0x19, 0x6E, 0x35, 0x80, 0x00, 0x5C]);
+//! assert_eq!(badge.sent(), [0xA1]); // the address byte: 2 x 50h + 1, for a read
+//! # Ok::<(), Box<dyn std::error::Error>>(())
 //! ```
 //!
-//! Where the reader does not acknowledge its address, the job says so, and the destination stays as
-//! it was:
+//! Where the reader does not acknowledge its address, the job says so, and there are no bytes:
 //!
 //! ```
-//! # use perlovasta::{Answer, Kind, OUT_LEN, run_job};
-//! let mut badge = [0xEE; 8];
-//! let mut out = [0; OUT_LEN];
-//! let report = run_job(Kind::Read, 0x50, 8, &[], &mut badge, &mut out, &[1, 0, 6, 1, 4, 0]);
+//! use perlovasta::{Acknowledge, Address, Answer, Event};
 //!
-//! assert_eq!(report.answer, Answer::AddressNacked);
-//! assert_eq!(report.answer.to_string(), "the device did not answer its address");
-//! assert_eq!(badge, [0xEE; 8]);
+//! let reader = Address::new(0x50)?;
+//! let script = [Event::OwnStart, Event::ByteOut(Acknowledge::Nack), Event::OwnStop];
+//! let error = perlovasta::read(reader, 8, &script).unwrap_err();
+//! assert_eq!(error.answer(), Answer::AddressNacked);
+//! assert_eq!(error.to_string(), "the reader did not answer its address");
+//! assert_eq!(error.sent(), [0xA1]);
+//! # Ok::<(), perlovasta::AddressError>(())
+//! ```
+//!
+//! # What does not compile
+//!
+//! A badge that nobody looked whether it was read. This does:
+//!
+//! ```
+//! # use perlovasta::{Address, Event};
+//! fn last_byte(reader: Address, script: &[Event]) -> Option<u8> {
+//!     perlovasta::read(reader, 8, script).ok().map(|badge| badge[7])
+//! }
+//! ```
+//!
+//! and this does not:
+//!
+//! ```compile_fail,E0608
+//! # use perlovasta::{Address, Event};
+//! fn last_byte(reader: Address, script: &[Event]) -> Option<u8> {
+//!     let badge = perlovasta::read(reader, 8, script);
+//!     Some(badge[7])
+//! }
+//! ```
+//!
+//! An answer that is dropped. This compiles:
+//!
+//! ```
+//! #![deny(unused_must_use)]
+//! # use perlovasta::{Address, Event, JobError};
+//! fn open(lock: Address, script: &[Event]) -> Result<(), JobError> {
+//!     perlovasta::write(lock, &[0x01], script)?;
+//!     Ok(())
+//! }
+//! ```
+//!
+//! and this does not:
+//!
+//! ```compile_fail
+//! #![deny(unused_must_use)]
+//! # use perlovasta::{Address, Event, JobError};
+//! fn open(lock: Address, script: &[Event]) -> Result<(), JobError> {
+//!     perlovasta::write(lock, &[0x01], script);
+//!     Ok(())
+//! }
+//! ```
+//!
+//! An address byte in the place of an address. This compiles:
+//!
+//! ```
+//! # use perlovasta::{Address, JobError, Read};
+//! const READER: Address = match Address::new(0x50) {
+//!     Ok(address) => address,
+//!     Err(_) => panic!("no device's address"),
+//! };
+//! fn badge() -> Result<Read, JobError> {
+//!     perlovasta::read(READER, 8, &[])
+//! }
+//! ```
+//!
+//! and neither of these does:
+//!
+//! ```compile_fail,E0080
+//! # use perlovasta::{Address, JobError, Read};
+//! const READER: Address = match Address::new(0xA0) {
+//!     Ok(address) => address,
+//!     Err(_) => panic!("no device's address"),
+//! };
+//! fn badge() -> Result<Read, JobError> {
+//!     perlovasta::read(READER, 8, &[])
+//! }
+//! ```
+//!
+//! ```compile_fail,E0308
+//! # use perlovasta::{Address, JobError, Read};
+//! fn badge() -> Result<Read, JobError> {
+//!     perlovasta::read(0x50, 8, &[])
+//! }
 //! ```
 //!
 //! # The library
 //!
 //! The build links libperlovasta.a from the folder that the environment variable
-//! `PERLOVASTA_LIB_DIR` names; without it, from where `rt staticlib perlovasta` puts it.
+//! `PERLOVASTA_LIB_DIR` names, a relative one from the repository's root; without it, or where it
+//! is empty, from where `rt staticlib perlovasta` puts it. It is built for x86-64 Linux.
 
+#![no_std]
 #![deny(unsafe_code)]
 #![warn(missing_docs)]
 
-mod answer;
+extern crate alloc;
+#[cfg(test)]
+extern crate std;
+
+mod access;
+mod chip;
 mod entry;
+mod event;
+mod fresh;
 mod job;
+mod job_error;
 mod reason;
 mod refusal;
 #[allow(unsafe_code)]
@@ -58,21 +141,27 @@ pub mod sys;
 mod trace;
 mod turn;
 
-pub use answer::Answer;
-pub use entry::{Entries, Entry};
-pub use job::{Kind, Report, run_job};
+pub use access::{Access, AccessError};
+pub use chip::{NoRecord, VirtualChip};
+pub use entry::Entry;
+pub use event::{Acknowledge, Event, ScriptError};
+pub use fresh::{Read, Written, read, write};
+pub use job_error::JobError;
+pub use perlovasta_terms::{
+    Address, AddressError, Answer, Argument, Bytes, PLACES, Pointer, Register,
+};
 pub use reason::Reason;
 pub use refusal::Refusal;
-pub use trace::{TraceError, run_trace};
+pub use trace::trace;
 pub use turn::{Called, Edge, Turn};
 
-/// The places of the buffer: the most data bytes that one job moves.
-pub const PLACES: usize = 68;
-/// The least length of a job's out record: the address byte and the data.
+/// The least length of a job's out record in [`sys`]: the address byte and the data.
 pub const OUT_LEN: usize = 1 + PLACES;
-/// The bytes of a job's report in [`sys::job`].
+/// The bytes of a job's report in [`sys`].
 pub const REPORT_LEN: usize = 12;
-/// The bytes of a trace for each access or event.
+/// The bytes of a trace for each access or event in [`sys`].
 pub const GROUP_LEN: usize = 3;
-/// The bytes of a log for each access or event.
+/// The bytes of a log for each access or event in [`sys`].
 pub const ENTRY_LEN: usize = 8;
+/// The bytes of a [`VirtualChip`].
+pub const CHIP_LEN: usize = 88;

@@ -1,6 +1,6 @@
 //! Why a move ended.
 
-use std::fmt;
+use core::fmt;
 
 /// Why a move ended: set by each new status but F8h and by a reset, and kept by everything else.
 ///
@@ -9,14 +9,15 @@ use std::fmt;
 /// [`CountReached`](Reason::CountReached) at 18h, before any data byte, as it has at 28h. A job's
 /// [`Answer`](crate::Answer) tells.
 #[derive(Clone, Copy, Debug, PartialEq, Eq, Hash)]
+#[must_use]
 pub enum Reason {
     /// None yet: the controller is fresh, or its last status but F8h was 08h, 10h, 60h, A8h or D0h,
     /// with no reset since.
     NoneYet,
     /// The last data byte was acknowledged, or (18h, 40h) the address byte.
     CountReached,
-    /// A byte was not acknowledged, the last one included: by the other side (20h, 30h, 48h, C0h) or
-    /// by the controller (58h, 88h, E8h).
+    /// A byte was not acknowledged, the last one included: by the other side (20h, 30h, 48h, C0h)
+    /// or by the controller (58h, 88h, E8h).
     Nack,
     /// Another's START or STOP ended a slave reception.
     Outside,
@@ -41,11 +42,13 @@ impl Reason {
     ];
 
     /// The number, 0 to 6.
+    #[must_use]
     pub const fn number(self) -> u8 {
         self as u8
     }
 
     /// The reason of that number.
+    #[must_use]
     pub fn from_number(number: u8) -> Option<Self> {
         Self::ALL.get(usize::from(number)).copied()
     }

@@ -1,9 +1,11 @@
 //! Why an access or event is refused.
 
-use std::fmt;
+use core::error::Error;
+use core::fmt;
 
 /// Why a register access or a bus event is refused. It then has the value 0 and changes nothing.
 #[derive(Clone, Copy, Debug, PartialEq, Eq, Hash)]
+#[must_use]
 pub enum Refusal {
     /// Register over 3, or event not 1 to 14.
     OutOfRange,
@@ -23,7 +25,7 @@ pub enum Refusal {
     Unexpected,
     /// Register 2: write with pointer 07h, or read with pointer 05h.
     Inaccessible,
-    /// The record is not sound. No fresh controller comes to this.
+    /// The record is not sound, or the bytes hold none. No fresh controller comes to this.
     Unsound,
 }
 
@@ -43,16 +45,34 @@ impl Refusal {
     ];
 
     /// The number, 1 to 10.
+    #[must_use]
     pub const fn number(self) -> u8 {
         self as u8 + 1
     }
 
     /// The refusal of that number.
+    #[must_use]
     pub fn from_number(number: u8) -> Option<Self> {
         let index = usize::from(number).checked_sub(1)?;
         Self::ALL.get(index).copied()
     }
+
+    /// The refusal of that number, none for 0.
+    ///
+    /// # Panics
+    ///
+    /// For any other number; the library is proved not to give one.
+    pub(crate) fn of_reply(number: u8) -> Option<Self> {
+        let refusal = Self::from_number(number);
+        assert!(
+            refusal.is_some() || number == 0,
+            "no refusal has number {number}"
+        );
+        refusal
+    }
 }
+
+impl Error for Refusal {}
 
 impl fmt::Display for Refusal {
     fn fmt(&self, f: &mut fmt::Formatter<'_>) -> fmt::Result {
@@ -83,5 +103,13 @@ mod tests {
         }
         assert_eq!(Refusal::from_number(0), None);
         assert_eq!(Refusal::from_number(11), None);
+        assert_eq!(Refusal::of_reply(0), None);
+        assert_eq!(Refusal::of_reply(10), Some(Refusal::Unsound));
+    }
+
+    #[test]
+    #[should_panic(expected = "no refusal has number 11")]
+    fn unknown_refusal() {
+        let _ = Refusal::of_reply(11);
     }
 }

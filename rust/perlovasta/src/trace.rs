@@ -1,81 +1,28 @@
 //! One trace on a fresh controller.
 
-use crate::{ENTRY_LEN, Entries, GROUP_LEN, sys};
-use std::error::Error;
-use std::fmt;
+use crate::{Access, ENTRY_LEN, Entry, GROUP_LEN, sys};
+use alloc::vec;
+use alloc::vec::Vec;
 
-/// The last kind of a group: 0 reads, 1 writes, 2 gives an event.
-const LAST_KIND: u8 = 2;
-
-/// Why a trace was not run. Nothing is written then.
-#[derive(Clone, Copy, Debug, PartialEq, Eq, Hash)]
-pub enum TraceError {
-    /// The trace does not end with a whole group.
-    NotWhole,
-    /// This group, counted from 0, is the first of a kind over 2.
-    BadKind {
-        /// Its number.
-        group: usize,
-    },
-    /// The log has no room for an entry for each group.
-    ShortLog {
-        /// How many entries there would be.
-        entries: usize,
-    },
-}
-
-impl fmt::Display for TraceError {
-    fn fmt(&self, f: &mut fmt::Formatter<'_>) -> fmt::Result {
-        match self {
-            TraceError::NotWhole => write!(f, "the trace is not whole groups of {GROUP_LEN} bytes"),
-            TraceError::BadKind { group } => write!(f, "group {group} is of no kind that there is"),
-            TraceError::ShortLog { entries } => {
-                write!(
-                    f,
-                    "the log is too short for {entries} entries of {ENTRY_LEN} bytes"
-                )
-            }
-        }
-    }
-}
-
-impl Error for TraceError {}
-
-/// Runs one trace on a fresh controller, as after reset but with no [reason](crate::Reason) yet, and
-/// not enabled, and hands back what came of each group.
-///
-/// A group is three bytes: `[0, register, _]` reads, `[1, register, value]` writes,
-/// `[2, event, argument]` gives a bus event. `log` has [`ENTRY_LEN`] bytes for each group; they are
-/// written, and its rest stays.
+/// Runs one trace on a fresh controller, as after reset but with no [reason](crate::Reason) yet,
+/// and not enabled. What came of each access or event, one for one.
 ///
 /// ```
-/// use perlovasta::{ENTRY_LEN, Refusal, Turn, run_trace};
+/// use perlovasta::{Access, Acknowledge, Event, Refusal, Register, Turn, trace};
 ///
 /// // Enable the controller, then ask for a byte out, which nothing has led to.
-/// let mut log = [0; 2 * ENTRY_LEN];
-/// let mut entries = run_trace(&[1, 3, 0x40, 2, 6, 0], &mut log)?;
-/// assert_eq!(entries.next().unwrap().turn, Turn::Free);
-/// assert_eq!(entries.next().unwrap().refusal, Some(Refusal::Unexpected));
-/// # Ok::<(), perlovasta::TraceError>(())
+/// let entries = trace(&[
+///     Access::Write(Register::Control, 0x40),
+///     Access::Event(Event::ByteOut(Acknowledge::Ack)),
+/// ]);
+/// assert_eq!(entries[0].turn, Turn::Free);
+/// assert_eq!(entries[1].reply, Err(Refusal::Unexpected));
 /// ```
-pub fn run_trace<'a>(trace: &[u8], log: &'a mut [u8]) -> Result<Entries<'a>, TraceError> {
-    if !sys::trace(trace, log) {
-        return Err(why_not(trace));
-    }
-    let entries = trace.len() / GROUP_LEN;
-    Ok(Entries::of(&log[..entries * ENTRY_LEN]))
-}
-
-/// Why the library did not run this trace: the first that applies.
-fn why_not(trace: &[u8]) -> TraceError {
-    let (groups, rest) = trace.as_chunks::<GROUP_LEN>();
-    if !rest.is_empty() {
-        return TraceError::NotWhole;
-    }
-    match groups.iter().position(|group| group[0] > LAST_KIND) {
-        Some(group) => TraceError::BadKind { group },
-        None => TraceError::ShortLog {
-            entries: groups.len(),
-        },
-    }
+#[must_use]
+pub fn trace(accesses: &[Access]) -> Vec<Entry> {
+    let groups: Vec<[u8; GROUP_LEN]> = accesses.iter().map(|access| access.group()).collect();
+    let mut log = vec![[0; ENTRY_LEN]; groups.len()];
+    let answer = sys::trace(groups.as_flattened(), log.as_flattened_mut());
+    assert_eq!(answer, 0, "whole groups, and a log of their length");
+    log.into_iter().map(Entry::typed).collect()
 }

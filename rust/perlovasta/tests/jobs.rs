@@ -1,215 +1,156 @@
-//! Jobs: the printed example of document 01, its cases a to g, and what stays untouched.
+//! Jobs: the printed example of document 01, its cases a to g, and what an error tells.
 
-use perlovasta::{Answer, Kind, OUT_LEN, PLACES, Refusal, Report, run_job, sys};
+use perlovasta::{Acknowledge, Address, Answer, Argument, Event, Refusal, read, write};
+use std::error::Error;
 
-const START: [u8; 2] = [1, 0];
-const STOP: [u8; 2] = [4, 0];
-const ACKED: [u8; 2] = [6, 0];
-const NACKED: [u8; 2] = [6, 1];
+const START: Event = Event::OwnStart;
+const STOP: Event = Event::OwnStop;
+const ACKED: Event = Event::ByteOut(Acknowledge::Ack);
+const NACKED: Event = Event::ByteOut(Acknowledge::Nack);
 
-/// In destination and out record before a job, to see what was written.
-const OLD: u8 = 0xEE;
-
-/// Of a job that is not begun.
-const MALFORMED: Report = Report {
-    answer: Answer::Malformed,
-    count: 0,
-    sent: &[],
-    events: 0,
-};
-
-fn report(answer: Answer, count: u8, sent: &[u8], events: usize) -> Report<'_> {
-    Report {
-        answer,
-        count,
-        sent,
-        events,
-    }
+fn device() -> Address {
+    Address::new(0x50).expect("a device's address")
 }
 
-/// Runs a job that has to report this and to leave the rest of the out record; gives its destination.
+/// Runs a read that is not done: its answer, the bytes sent and the events taken.
 #[track_caller]
-fn run(kind: Kind, n: u8, data: &[u8], script: &[u8], expected: Report) -> [u8; PLACES] {
-    let mut destination = [OLD; PLACES];
-    let mut out = [OLD; OUT_LEN];
-    let report = run_job(kind, 0x50, n, data, &mut destination, &mut out, script);
-    assert_eq!(report, expected);
-    assert!(begins(&out, expected.sent));
-    destination
-}
-
-/// Whether the slice begins with these bytes and its rest is as it was.
-fn begins(slice: &[u8], bytes: &[u8]) -> bool {
-    slice.starts_with(bytes) && slice[bytes.len()..].iter().all(|&byte| byte == OLD)
+fn read_fails(n: usize, script: &[Event]) -> (Answer, Vec<u8>, usize) {
+    let error = read(device(), n, script).expect_err("it is not done");
+    assert_eq!(error.moved(), 0);
+    assert_eq!(
+        error.argument().is_some(),
+        error.answer() == Answer::Malformed
+    );
+    assert_eq!(error.refusal().is_some(), error.answer() == Answer::Refused);
+    (error.answer(), error.sent().to_vec(), error.events())
 }
 
 /// The script of a read: what the reader sends, each byte in.
-fn read_script(bytes: &[u8]) -> Vec<u8> {
-    let data = bytes.iter().flat_map(|&byte| [7, byte]);
-    START
+fn read_script(bytes: &[u8]) -> Vec<Event> {
+    let data = bytes.iter().copied().map(Event::ByteIn);
+    [START, ACKED]
         .into_iter()
-        .chain(ACKED)
         .chain(data)
-        .chain(STOP)
+        .chain([STOP])
         .collect()
 }
 
 #[test]
 fn printed_example() {
-    let script = [START, ACKED, ACKED, ACKED, STOP].concat();
-    let done = report(Answer::Done, 2, &[0xA0, 0x11, 0x22], 5);
-    let destination = run(Kind::Write, 2, &[0x11, 0x22], &script, done);
-    assert!(begins(&destination, &[]));
+    let written = write(device(), &[0x11, 0x22], &[START, ACKED, ACKED, ACKED, STOP]);
+    let written = written.expect("it is done");
+    assert_eq!(written.sent(), [0xA0, 0x11, 0x22]);
+    assert_eq!(written.events(), 5);
 }
 
 #[test]
 fn case_a() {
-    let done = report(Answer::Done, 1, &[0xA1], 4);
-    let destination = run(Kind::Read, 1, &[], &read_script(&[0x5C]), done);
-    assert!(begins(&destination, &[0x5C]));
+    let bytes = read(device(), 1, &read_script(&[0x5C])).expect("it is done");
+    assert_eq!(*bytes, [0x5C]);
+    assert_eq!(*bytes.bytes(), [0x5C]);
+    assert_eq!((bytes.sent(), bytes.events()), (&[0xA1][..], 4));
 }
 
 #[test]
 fn case_b() {
-    let nacked = report(Answer::AddressNacked, 0, &[0xA1], 3);
-    let script = [START, NACKED, STOP].concat();
-    let destination = run(Kind::Read, 1, &[], &script, nacked);
-    assert!(begins(&destination, &[]));
+    let nacked = (Answer::AddressNacked, vec![0xA1], 3);
+    assert_eq!(read_fails(1, &[START, NACKED, STOP]), nacked);
 }
 
 #[test]
 fn case_c() {
-    let script = [START, ACKED, NACKED, STOP].concat();
-    let nacked = report(Answer::DataNacked, 1, &[0xA0, 0x11], 4);
-    run(Kind::Write, 2, &[0x11, 0x22], &script, nacked);
+    let error = write(device(), &[0x11, 0x22], &[START, ACKED, NACKED, STOP]).unwrap_err();
+    assert_eq!((error.answer(), error.moved()), (Answer::DataNacked, 1));
+    assert_eq!((error.sent(), error.events()), (&[0xA0, 0x11][..], 4));
+    assert_eq!(error.to_string(), "the reader did not take a data byte");
 }
 
 #[test]
 fn case_d() {
     let bytes: Vec<u8> = (100..168).collect();
-    let done = report(Answer::Done, 68, &[0xA1], 71);
-    let destination = run(Kind::Read, 68, &[], &read_script(&bytes), done);
-    assert_eq!(destination[..], bytes);
+    let got = read(device(), 68, &read_script(&bytes)).expect("it is done");
+    assert_eq!((&got[..], got.events()), (&bytes[..], 71));
 
-    let script = [&START[..], &ACKED.repeat(69), &STOP].concat();
-    let sent = [&[0xA0], &bytes[..]].concat();
-    let done = report(Answer::Done, 68, &sent, 71);
-    run(Kind::Write, 68, &bytes, &script, done);
+    let script = [&[START][..], &[ACKED; 69], &[STOP]].concat();
+    let written = write(device(), &bytes, &script).expect("it is done");
+    assert_eq!(written.sent(), [&[0xA0], &bytes[..]].concat());
+    assert_eq!(written.events(), 71);
 }
 
 #[test]
 fn cases_e_and_f() {
-    for n in [0, 69] {
-        run(Kind::Read, n, &[], &read_script(&[1; 69]), MALFORMED);
-        run(Kind::Write, n, &[1; 69], &START, MALFORMED);
+    for n in [0, 69, 255, 256, 257, 256 + 68, 70_000] {
+        let script = read_script(&[1; 69]);
+        assert_eq!(read_fails(n, &script), (Answer::Malformed, vec![], 0));
+        let error = read(device(), n, &script).unwrap_err();
+        assert_eq!(error.argument(), Some(Argument::Count(n)));
+        let words = format!("a read is of 1 to 68 bytes, not of {n}");
+        assert_eq!(error.to_string(), words);
+
+        let error = write(device(), &vec![1; n], &[START]).unwrap_err();
+        assert_eq!(error.answer(), Answer::Malformed);
+        assert_eq!(error.argument(), Some(Argument::Data(n)));
+        let words = format!("a write is of 1 to 68 data bytes, not of {n}");
+        assert_eq!(error.to_string(), words);
     }
 }
 
 #[test]
 fn case_g() {
-    let unfinished = report(Answer::Unfinished, 0, &[], 0);
-    run(Kind::Read, 1, &[], &[], unfinished);
+    assert_eq!(read_fails(1, &[]), (Answer::Unfinished, vec![], 0));
+    let error: Box<dyn Error> = Box::new(read(device(), 1, &[]).unwrap_err());
+    assert_eq!(error.to_string(), "the script ended first");
 }
 
 #[test]
-fn odd_script() {
-    run(Kind::Read, 1, &[], &[1, 0, 6], MALFORMED);
-}
-
-#[test]
-fn lengths_at_the_limit() {
-    let script = read_script(&[0x5C, 0x5D]);
-    for destination in [0, 1, 2, 3] {
-        for out in [0, 68, 69, 70] {
-            let mut d = vec![OLD; destination];
-            let mut o = vec![OLD; out];
-            let got = run_job(Kind::Read, 0x50, 2, &[], &mut d, &mut o, &script);
-            let long_enough = destination >= 2 && out >= 69;
-            let expected = match long_enough {
-                true => report(Answer::Done, 2, &[0xA1], 5),
-                false => MALFORMED,
-            };
-            assert_eq!(got, expected);
-            assert_eq!(d.starts_with(&[0x5C, 0x5D]), long_enough);
-        }
-    }
-    run(Kind::Write, 2, &[1], &START, MALFORMED);
-}
-
-#[test]
-fn addresses_outside() {
-    for address in [0, 7, 0x78, 0xFF] {
-        let (mut d, mut o) = ([OLD; 1], [OLD; OUT_LEN]);
-        let got = run_job(Kind::Read, address, 1, &[], &mut d, &mut o, &START);
-        assert_eq!(got, MALFORMED);
+fn first_and_last_address() {
+    for (address, byte) in [(Address::FIRST, 0x11), (Address::LAST, 0xEF)] {
+        let bytes = read(address, 1, &read_script(&[0x5C])).expect("it is done");
+        assert_eq!(bytes.sent(), [byte]);
     }
 }
 
 #[test]
-fn a_read_that_is_not_done_leaves_the_destination() {
+fn a_read_that_is_not_done_has_no_bytes() {
     let whole = read_script(&[0x5C, 0x5D, 0x5E]);
-    for pairs in 0..whole.len() / 2 {
-        // The second pair sends the address byte.
-        let sent: &[u8] = if pairs < 2 { &[] } else { &[0xA1] };
-        let script = &whole[..2 * pairs];
-        let unfinished = report(Answer::Unfinished, 0, sent, pairs);
-        let destination = run(Kind::Read, 3, &[], script, unfinished);
-        assert!(begins(&destination, &[]));
-
+    for events in 0..whole.len() {
+        // The second event sends the address byte.
+        let sent = if events < 2 { vec![] } else { vec![0xA1] };
+        let script = &whole[..events];
+        let unfinished = (Answer::Unfinished, sent.clone(), events);
+        assert_eq!(read_fails(3, script), unfinished);
         for (last, answer, taken) in [
-            ([14, 0], Answer::Reset, 1),
-            ([15, 0], Answer::Refused(Refusal::OutOfRange), 0),
-            ([1, 7], Answer::Refused(Refusal::BadArgument), 0),
-            ([12, 0], Answer::Fault, 1),
+            (Event::ResetPin, Answer::Reset, 1),
+            (Event::AddressByte(0), Answer::Refused, 0),
+            (Event::SclLow, Answer::Fault, 1),
         ] {
-            let ended = report(answer, 0, sent, pairs + taken);
-            let destination = run(Kind::Read, 3, &[], &[script, &last].concat(), ended);
-            assert!(begins(&destination, &[]));
+            let ended = (answer, sent.clone(), events + taken);
+            assert_eq!(read_fails(3, &[script, &[last]].concat()), ended);
         }
     }
+}
+
+#[test]
+fn a_refused_event_is_told() {
+    let error = read(device(), 3, &[STOP]).unwrap_err();
+    assert_eq!(error.refusal(), Some(Refusal::Unexpected));
+    assert_eq!(
+        error.to_string(),
+        "the controller refused an event: the event is not expected now"
+    );
 }
 
 #[test]
 fn arbitration_lost() {
-    let lost = report(Answer::Lost, 0, &[0xA0], 3);
-    run(Kind::Write, 1, &[9], &[START, ACKED, [9, 0]].concat(), lost);
-    let lost = report(Answer::Lost, 0, &[], 2);
-    run(Kind::Write, 1, &[9], &[START, [8, 0x9F]].concat(), lost);
+    let error = write(device(), &[9], &[START, ACKED, Event::LostInData]).unwrap_err();
+    assert_eq!((error.answer(), error.sent()), (Answer::Lost, &[0xA0][..]));
+    let error = write(device(), &[9], &[START, Event::LostInAddress(0x9F)]).unwrap_err();
+    assert_eq!((error.answer(), error.sent()), (Answer::Lost, &[][..]));
 }
 
 #[test]
-fn later_pairs_are_not_looked_at() {
-    let script = [&read_script(&[0x5C])[..], &[0xFF, 0xFF]].concat();
-    let done = report(Answer::Done, 1, &[0xA1], 4);
-    run(Kind::Read, 1, &[], &script, done);
-}
-
-#[test]
-fn data_may_be_the_script() {
-    let script = [START, ACKED, ACKED, ACKED, STOP].concat();
-    let done = report(Answer::Done, 2, &[0xA0, 0x01, 0x00], 5);
-    run(Kind::Write, 2, &script, &script, done);
-}
-
-#[test]
-fn other_kinds() {
-    for kind in 2..=u8::MAX {
-        let (mut d, mut o, mut r) = ([OLD; 1], [OLD; OUT_LEN], [OLD; 13]);
-        let script = read_script(&[0x5C]);
-        let given = sys::job(kind, 0x50, 1, &[9], &mut d, &mut o, &script, &mut r);
-        assert!(given && begins(&d, &[]) && begins(&o, &[]));
-        assert!(begins(&r, &[21, 0, 0, 0, 0, 0, 0, 0, 0, 0, 0, 0]));
-    }
-}
-
-#[test]
-fn too_short_a_report() {
-    for length in 0..=13 {
-        let (mut d, mut o, mut r) = ([OLD; 1], [OLD; OUT_LEN], vec![OLD; length]);
-        let script = read_script(&[0x5C]);
-        let given = sys::job(1, 0x50, 1, &[], &mut d, &mut o, &script, &mut r);
-        assert_eq!(given, length >= 12);
-        let untouched = begins(&d, &[]) && begins(&o, &[]) && begins(&r, &[]);
-        assert_eq!(untouched, !given);
-    }
+fn later_events_are_not_looked_at() {
+    let script = [&read_script(&[0x5C])[..], &[STOP, STOP]].concat();
+    let bytes = read(device(), 1, &script).expect("it is done");
+    assert_eq!((&bytes[..], bytes.events()), (&[0x5C][..], 4));
 }

@@ -27,7 +27,10 @@ fn main() -> ExitCode {
             return ExitCode::from(2);
         }
     };
-    println!("least of {runs} runs, in ns; a call is a job or a trace, a piece a pair or a group");
+    println!(
+        "least of {runs} runs, in ns; a call is a job, a trace or some accesses to a virtual chip,"
+    );
+    println!("a piece a pair, a group or an access;");
     println!("{HEADING}");
     for row in rows() {
         show(&row, runs);

@@ -1,11 +1,11 @@
 //! The answers of the port, by their numbers in `perlovasta_dock.h`, and of its board.
 
 use super::Checked;
-use perlovasta_dock::Step;
+use crate::port::step::Step;
 
 /// Done.
 pub const DONE: u8 = 0;
-/// The job or the settings are wrong, or a slice is too short; of bytes to be taken, it was no read.
+/// The job or the settings are wrong, or a slice is too short; of bytes to be taken: no read.
 pub const MALFORMED: u8 = 21;
 /// Not ready.
 pub const NOT_READY: u8 = 22;

@@ -15,9 +15,10 @@ use super::lying::{self, Lied};
 use super::settings;
 use super::tally::Tally;
 use crate::difference::{Difference, hex};
+use crate::port::step::Step;
 use crate::random::Random;
 use perlovasta::PLACES;
-use perlovasta_dock::{STATE_LEN, Step};
+use perlovasta_dock::STATE_LEN;
 
 /// The longest state.
 pub const LONGEST: usize = 200;
@@ -75,7 +76,7 @@ impl AnyState<'_> {
         for step in steps {
             check_over(step, MALFORMED, "too short a state")?;
         }
-        handed::expect(handed::take(&self.lent, PLACES, job.n)?, MALFORMED)?;
+        handed::expect(handed::take(&mut self.lent, PLACES, job.n)?, MALFORMED)?;
         if self.lent.content() != before {
             return Err("a state that is too short was written".to_owned());
         }
@@ -86,7 +87,10 @@ impl AnyState<'_> {
     fn check_all(&mut self) -> Checked<()> {
         let length = self.random.pick(&[PLACES, PLACES + 10]);
         // It may well say that it holds a finished read, of 68 bytes at most.
-        let _ = handed::take(&self.lent, length, PLACES as u8)?;
+        let mut lent = self.lent.clone();
+        if handed::take(&mut lent, length, PLACES as u8)?.is_ok() {
+            check_over(lent.next(0)?, MALFORMED, "bytes that were taken")?;
+        }
         check_give_up(self.lent.clone(), &Asked::random(&mut self.random))?;
         self.check_next()?;
         self.check_start()?;
@@ -112,7 +116,7 @@ impl AnyState<'_> {
         };
         if let Some(answer) = refused {
             check_over(first, answer, "a job")?;
-            return handed::expect(handed::take(&lent, PLACES, job.n)?, answer);
+            return handed::expect(handed::take(&mut lent, PLACES, job.n)?, answer);
         }
         self.check_begun(&job, &mut lent, first)
     }
@@ -126,7 +130,7 @@ impl AnyState<'_> {
         let lied = self.lie(lent, &mut liar, first)?;
         let taken = handed::take(lent, PLACES, job.n)?;
         if lied != self.lie(&mut clean, &mut same, clean_first)?
-            || taken != handed::take(&clean, PLACES, job.n)?
+            || taken != handed::take(&mut clean, PLACES, job.n)?
         {
             return Err(format!("old contents of the state show in a job of {job}"));
         }

@@ -4,11 +4,11 @@ use super::bus::Bus;
 use super::lent::Lent;
 use super::{Checked, SI, STATUS};
 use crate::group::CONTROL;
+use crate::port::step::Step;
 use crate::random::Random;
 use crate::reference::turn_number;
 use crate::steer::pair;
 use model::{Controller, Refusal};
-use perlovasta_dock::Step;
 
 /// The most accesses from one rest to the next: two reads, 68 data bytes and I2CCON.
 pub const BURST: usize = 72;

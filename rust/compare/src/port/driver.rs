@@ -32,7 +32,7 @@ pub fn on_model(controller: &Controller, job: &Job, script: &[u8]) -> (Told, Con
 /// What `perlovasta_job` tells of the job; its controller is fresh, and enabled by 40h.
 pub fn on_library(job: &Asked, script: &[u8]) -> Told {
     let (mut destination, mut out, mut report) = ([0; ROOM], [0; OUT_LEN], [0; REPORT_LEN]);
-    let given = sys::job(
+    let answer = sys::job(
         job.kind,
         job.address,
         job.n,
@@ -42,8 +42,8 @@ pub fn on_library(job: &Asked, script: &[u8]) -> Told {
         script,
         &mut report,
     );
-    assert!(given, "a report of 12 bytes is long enough");
-    let [answer, beside, count, sent, events @ ..] = report;
+    let [told, beside, count, sent, events @ ..] = report;
+    assert_eq!(answer, told, "the answer is the report's first byte");
     Told {
         answer,
         beside,

@@ -6,7 +6,8 @@ use super::library::{LIBRARY, Library};
 use super::tally::Tally;
 use super::{any_state, liars, list};
 use crate::difference::Difference;
-use perlovasta_dock::{STATE_LEN, Step, sys};
+use crate::port::step::Step;
+use perlovasta_dock::{STATE_LEN, sys};
 
 /// A part of the comparison, from a seed.
 type Part = fn(Library, u64, &mut Tally) -> Result<(), Difference>;
@@ -59,7 +60,7 @@ fn the_library_is_right() {
 
 #[test]
 fn bytes_in_another_order() {
-    fn take(state: &[u8], destination: &mut [u8]) -> u8 {
+    fn take(state: &mut [u8], destination: &mut [u8]) -> u8 {
         let why_not = sys::take(state, destination);
         if why_not == 0 && destination.len() > 1 {
             destination.swap(0, 1);
@@ -72,7 +73,7 @@ fn bytes_in_another_order() {
 
 #[test]
 fn bytes_taken_too_early() {
-    fn take(state: &[u8], destination: &mut [u8]) -> u8 {
+    fn take(state: &mut [u8], destination: &mut [u8]) -> u8 {
         match sys::take(state, destination) {
             27 => 0,
             why_not => why_not,
@@ -84,6 +85,45 @@ fn bytes_taken_too_early() {
 }
 
 #[test]
+fn bytes_taken_twice() {
+    fn take(state: &mut [u8], destination: &mut [u8]) -> u8 {
+        sys::take(&mut state.to_vec(), destination)
+    }
+    let library = Library { take, ..LIBRARY };
+    let words = "take gave 0, not 21";
+    refused(library, &[(LISTS, words), (LIARS, words)]);
+    refused(library, &[(STATES, "bytes that were taken")]);
+}
+
+#[test]
+fn bytes_left_behind() {
+    fn take(state: &mut [u8], destination: &mut [u8]) -> u8 {
+        let last = state.get(80).copied();
+        let why_not = sys::take(state, destination);
+        if let (0, Some(last)) = (why_not, last) {
+            state[80] = last;
+        }
+        why_not
+    }
+    let library = Library { take, ..LIBRARY };
+    let words = "bytes that were taken show";
+    refused(library, &[(LISTS, words), (LIARS, words)]);
+}
+
+#[test]
+fn a_job_given_up_because_it_was_not_over() {
+    fn take(state: &mut [u8], destination: &mut [u8]) -> u8 {
+        let why_not = sys::take(state, destination);
+        if why_not == 27 {
+            let _over = sys::give_up(state);
+        }
+        why_not
+    }
+    let library = Library { take, ..LIBRARY };
+    refused(library, &[(STATES, "and no bytes were taken")]);
+}
+
+#[test]
 fn a_reader_that_did_not_answer_taken_for_done() {
     fn next(state: &mut [u8], value: u8) -> u32 {
         match sys::next(state, value) {
@@ -91,7 +131,7 @@ fn a_reader_that_did_not_answer_taken_for_done() {
             step => step,
         }
     }
-    fn take(state: &[u8], destination: &mut [u8]) -> u8 {
+    fn take(state: &mut [u8], destination: &mut [u8]) -> u8 {
         match sys::take(state, destination) {
             23 => 0,
             why_not => why_not,

@@ -3,7 +3,8 @@
 use super::Checked;
 use super::asked::Asked;
 use super::library::Library;
-use perlovasta_dock::{STATE_LEN, Step};
+use crate::port::step::Step;
+use perlovasta_dock::STATE_LEN;
 use std::hint::black_box;
 
 const GUARD: [u8; 16] = [0xC3; 16];
@@ -67,23 +68,29 @@ impl Lent {
         self.call(give_up)
     }
 
-    /// The bytes of a finished read. The state is only read.
-    pub fn take(&self, destination: &mut [u8]) -> Checked<u8> {
+    /// The bytes of a finished read. Where there are none the state stays.
+    pub fn take(&mut self, destination: &mut [u8]) -> Checked<u8> {
         let before = self.bytes.clone();
-        let why_not = (self.library.take)(self.content(), destination);
-        if *black_box(&self.bytes) == before {
+        let take = self.library.take;
+        let why_not = self.guarded(|state| take(state, destination))?;
+        if why_not == 0 || *black_box(&self.bytes) == before {
             Ok(why_not)
         } else {
-            Err("the state was written when bytes were taken".to_owned())
+            Err("the state was written, and no bytes were taken".to_owned())
         }
     }
 
-    fn call(&mut self, function: impl FnOnce(&mut [u8]) -> u32) -> Checked<Step> {
+    fn guarded<T>(&mut self, function: impl FnOnce(&mut [u8]) -> T) -> Checked<T> {
         let end = self.bytes.len() - GUARD.len();
-        let number = function(&mut self.bytes[GUARD.len()..end]);
+        let given = function(&mut self.bytes[GUARD.len()..end]);
         if !self.bytes.starts_with(&GUARD) || !self.bytes.ends_with(&GUARD) {
             return Err("a byte outside the state was written".to_owned());
         }
+        Ok(given)
+    }
+
+    fn call(&mut self, function: impl FnOnce(&mut [u8]) -> u32) -> Checked<Step> {
+        let number = self.guarded(function)?;
         match Step::from_number(number) {
             None => Err(format!("{number:08X}h is no step")),
             Some(Step::Write { register, .. } | Step::Read { register })

@@ -109,7 +109,7 @@ impl Liars<'_> {
 
         let first = copy.start(job)?;
         let same = lying::run(&mut copy, &mut same_liar, first, BURST, |_, _| Ok(()))?;
-        let same_handed = handed::take(&copy, PLACES, job.n)?;
+        let same_handed = handed::take(&mut copy, PLACES, job.n)?;
         if same != lied || same_handed.unwrap_or_default() != handed {
             return Err("old contents of the state show".to_owned());
         }
@@ -120,7 +120,7 @@ impl Liars<'_> {
     /// Whether the exchanges bear the answer out; gives the bytes handed up.
     fn check(&mut self, job: &Asked, lied: &Lied) -> Checked<Vec<u8>> {
         let Some((answer, count)) = lied.ended else {
-            handed::expect(handed::take(&self.lent, PLACES, job.n)?, GIVEN_UP)?;
+            handed::expect(handed::take(&mut self.lent, PLACES, job.n)?, GIVEN_UP)?;
             return Ok(Vec::new());
         };
         if job.flaw().is_none() {
@@ -128,7 +128,7 @@ impl Liars<'_> {
         } else if (answer, count, lied.log.len()) != (MALFORMED, 0, 0) {
             return Err(format!("a wrong job is answered {answer}"));
         }
-        let handed = handed::after_job(&self.lent, job, answer, &mut self.random)?;
+        let handed = handed::after_job(&mut self.lent, job, answer, &mut self.random)?;
         if answer == DONE && job.is_read() {
             exchange::check_read(&lied.log, &handed)?;
         }
@@ -148,7 +148,7 @@ fn make_ready(lent: &mut Lent, liar: &mut Liar, lied: &Lied) -> Checked<()> {
 pub fn check_give_up(mut lent: Lent, job: &Asked) -> Checked<()> {
     check_over(lent.give_up()?, GIVEN_UP, "given up")?;
     check_over(lent.next(0)?, GIVEN_UP, "given up, then the next step")?;
-    handed::expect(handed::take(&lent, PLACES, job.n)?, GIVEN_UP)?;
+    handed::expect(handed::take(&mut lent, PLACES, job.n)?, GIVEN_UP)?;
     let answer = match job.flaw() {
         Some(_) => MALFORMED,
         None => NOT_READY,

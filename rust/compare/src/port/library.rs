@@ -15,7 +15,7 @@ pub struct Library {
     /// The caller's clock ran out: state.
     pub give_up: fn(&mut [u8]) -> u32,
     /// The bytes of a finished read: state, destination.
-    pub take: fn(&[u8], &mut [u8]) -> u8,
+    pub take: fn(&mut [u8], &mut [u8]) -> u8,
 }
 
 /// The proved library.

@@ -16,11 +16,11 @@ use super::rule::{Unready, is_idle};
 use super::tally::Tally;
 use super::traffic::Traffic;
 use crate::difference::Difference;
+use crate::port::step::Step;
 use crate::random::Random;
 use crate::reference::step;
 use crate::steer::Steering;
 use model::{Controller, PLACES};
-use perlovasta_dock::Step;
 
 /// The most steps of a job or recovery. No script is so long that one takes them.
 const STEPS: usize = 10_000;

@@ -6,7 +6,7 @@ use super::board::BURST;
 use super::exchange::Exchange;
 use super::lent::Lent;
 use super::liar::Liar;
-use perlovasta_dock::Step;
+use crate::port::step::Step;
 
 /// The most rests of a run; one that is not over by then is left.
 const RESTS: usize = 60;

@@ -65,7 +65,7 @@ mod tests {
     fn counted(after: &[Group]) -> ([u64; 5], u64) {
         let trace = [&KEPT, after].concat().into_flattened();
         let mut log = vec![0; ENTRY_LEN * (KEPT.len() + after.len())];
-        assert!(reference::trace(&trace, &mut log));
+        assert_eq!(reference::trace(&trace, &mut log), 0);
         let mut tally = Tally::new();
         tally.count_trace(&trace, &log);
         (tally.lost_left, tally.lost_kept)

@@ -46,7 +46,7 @@ mod tests {
     fn counted(groups: &[Group]) -> Tally {
         let trace = groups.concat();
         let mut log = vec![0; ENTRY_LEN * groups.len()];
-        assert!(reference::trace(&trace, &mut log));
+        assert_eq!(reference::trace(&trace, &mut log), 0);
         let mut tally = Tally::new();
         tally.count_trace(&trace, &log);
         tally

@@ -390,3 +390,14 @@ fn reason_after_every_call() {
         }
     }
 }
+
+#[test]
+fn a_record_goes_both_ways() {
+    for controller in unsound_records().into_iter().chain([Controller::fresh()]) {
+        assert_eq!(Controller::from(controller.record()), controller);
+    }
+    let mut record = Controller::fresh().record();
+    record.control = 0xFF;
+    let con = Controller::from(record).con;
+    assert_eq!(con, bit::AA | bit::ENSIO | bit::STA | bit::STO | bit::MODE);
+}

@@ -4,7 +4,6 @@ use mathlib.Core.Path.{sym, ap, _∙_}
 use Prim.Native.Nat.{ℕ}
 use borrow.Author.Needs.{needs}
 use lib.Dec.{eqb}
-use lib.ListN.{length}
 use denote.Ref.{now}
 use Rattle.driver.specs.Run.{resultOf}
 use Rattle.notation.proofs.Cases.{if-true, if-false}

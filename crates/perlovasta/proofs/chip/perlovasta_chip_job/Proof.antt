@@ -1,7 +1,7 @@
 -- `perlovasta_chip_job` is `chipJobCall`, and leaves the chip as `chipAfterJob` says: what is known at each return settles its test, and
 -- `run_reported` and `keep` promise the rest.
 use mathlib.Core.List.{List}
-use mathlib.Core.Path.{refl, sym, ap, _∙_}
+use mathlib.Core.Path.{sym, ap, _∙_}
 use Prim.Native.Nat.{ℕ}
 use borrow.Author.Needs.{needs}
 use borrow.Author.Tests.{ltb-false}

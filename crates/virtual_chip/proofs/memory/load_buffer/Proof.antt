@@ -4,7 +4,7 @@ use mathlib.Core.Path.{_≡_, refl, sym, ap, _∙_}
 use Prim.Native.Nat.{ℕ, _+_, _-_, _≤_}
 use native.Mathlib.Omega.{arith}
 use borrow.Author.Needs.{needs}
-use lib.ListN.{length, take, drop, set, getD, replicate, length-set, length-drop, length-replicate}
+use lib.ListN.{length, take, drop, getD, replicate, length-set, length-drop, length-replicate}
 use lib.Seq.{getD-drop}
 use denote.Ref.{now}
 use Rattle.notation.proofs.Laid.{part-length, laid-all}

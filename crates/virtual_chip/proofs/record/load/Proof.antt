@@ -1,7 +1,6 @@
 -- `load` is `recordOf`: what is known at each return settles its test.
 use mathlib.Core.Path.{sym, _∙_}
 use borrow.Author.Needs.{needs}
-use denote.Ref.{now}
 use Rattle.notation.proofs.Cases.{if-true, if-false}
 use Rattle.virtual_chip.proofs.Bytes.{record-long}
 use Rattle.virtual_chip.specs.RecordBytes.{recordOf}

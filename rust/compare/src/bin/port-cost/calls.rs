@@ -1,6 +1,7 @@
 //! The calls of a recovery and of one read of eight bytes, on a list of what the registers read.
 
-use perlovasta_dock::{STATE_LEN, Step, sys};
+use compare::port::step::Step;
+use perlovasta_dock::{STATE_LEN, sys};
 
 /// What the registers read in the read.
 const REGISTERS: [u8; 19] = [
@@ -23,7 +24,7 @@ pub fn show() {
     let recovery = recovery(&mut state);
     let read = read(&mut state);
     let mut badge = [0; 8];
-    let why_not = sys::take(&state, &mut badge);
+    let why_not = sys::take(&mut state, &mut badge);
     assert_eq!((why_not, &badge[..]), (0, &REGISTERS[9..17]), "not read");
     for (name, step) in [recovery, read].concat() {
         println!("{name} {}", kind(step));

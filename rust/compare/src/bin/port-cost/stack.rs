@@ -3,7 +3,8 @@
 
 use crate::painted;
 use compare::port::library::{LIBRARY, Library};
-use perlovasta_dock::{STATE_LEN, Step};
+use compare::port::step::Step;
+use perlovasta_dock::STATE_LEN;
 use std::hint::black_box;
 
 /// The most bytes of a job.

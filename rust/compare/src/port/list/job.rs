@@ -85,7 +85,7 @@ impl List<'_> {
             count,
             events: run.events,
             sent: run.sent.clone(),
-            handed: handed::after_job(&self.lent, job, answer, &mut self.random)?,
+            handed: handed::after_job(&mut self.lent, job, answer, &mut self.random)?,
         };
         Ok((run, told))
     }

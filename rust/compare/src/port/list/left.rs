@@ -10,8 +10,8 @@ use crate::port::handed;
 use crate::port::item::{Item, Way};
 use crate::port::rule::Unready;
 use crate::port::settings;
+use crate::port::step::Step;
 use perlovasta::PLACES;
-use perlovasta_dock::Step;
 
 impl List<'_> {
     /// Begins a job or a recovery and, after some steps, something else: what was under way is
@@ -72,6 +72,6 @@ impl List<'_> {
         };
         check_over(step, answer, "left under way")?;
         self.stays_over(answer, 0)?;
-        handed::expect(handed::take(&self.lent, PLACES, PLACES as u8)?, answer)
+        handed::expect(handed::take(&mut self.lent, PLACES, PLACES as u8)?, answer)
     }
 }

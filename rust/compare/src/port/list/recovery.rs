@@ -65,8 +65,11 @@ impl List<'_> {
     }
 
     /// Nothing can be taken from what was no read.
-    fn is_no_read(&self) -> Checked<()> {
-        handed::expect(handed::take(&self.lent, PLACES, PLACES as u8)?, MALFORMED)
+    fn is_no_read(&mut self) -> Checked<()> {
+        handed::expect(
+            handed::take(&mut self.lent, PLACES, PLACES as u8)?,
+            MALFORMED,
+        )
     }
 }
 

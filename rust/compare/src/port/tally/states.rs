@@ -5,7 +5,7 @@ use crate::port::answer::DONE;
 use crate::port::asked::Asked;
 use crate::port::board::BURST;
 use crate::port::lying::Lied;
-use perlovasta_dock::Step;
+use crate::port::step::Step;
 
 impl Tally {
     /// Counts a job on a chip that lies.
