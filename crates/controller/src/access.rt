@@ -91,7 +91,7 @@ impl Controller {
             return self.refused(Refusal::OutOfRange);
         }
         if self.is_sound() {
-            self.after_read(self.read_sound(register))
+            self.after_read(self.read_effect(register))
         } else {
             self.refused(Refusal::Unsound)
         }
@@ -147,7 +147,7 @@ impl Controller {
             return self.refused(Refusal::OutOfRange);
         }
         if self.is_sound() {
-            self.after_write(self.write_sound(register, value))
+            self.after_write(self.write_effect(register, value))
         } else {
             self.refused(Refusal::Unsound)
         }

@@ -90,7 +90,7 @@ impl Controller {
             return self.reset().accepted(0);
         }
         if self.is_sound() {
-            self.after_event(self.event_sound(number, argument))
+            self.after_event(self.event_effect(number, argument))
         } else {
             self.refused(Refusal::Unsound)
         }

@@ -6,7 +6,6 @@ use Prim.Native.Nat.{ℕ}
 use lib.Dec.{ltb}
 use lib.ListN.{length}
 use Rattle.controller.specs.declared.record.Controller.{Controller}
-use Rattle.driver.specs.Run.{Result}
 use Rattle.notation.proofs.Cases.{if-true, if-false}
 use Rattle.notation.specs.Overlay.{laid}
 use Rattle.perlovasta.specs.Job.{JobCall, requestReport, tells, shortReport, jobCallOn}
@@ -35,12 +34,11 @@ module _ (c : Controller) (kind address n : ℕ) (payload destination out script
   short-report e = gives shortReport _ _ _ _ _ _ _ _ (if-true _ _ _ e) (refl, refl, refl, refl)
 
   -- the job was run and reported
-  pub reported : (answer : ℕ) (result : Result) (destination′ out′ report′ : List ℕ) → ltb (length report) 12 ≡ false → answer ≡ result .answer →
-      result ≡ (requestReport c kind address n payload (length destination) (length out) script) .result →
+  pub reported : (answer : ℕ) (destination′ out′ report′ : List ℕ) → ltb (length report) 12 ≡ false →
+      answer ≡ (requestReport c kind address n payload (length destination) (length out) script) .result .answer →
       destination′ ≡ laid ((requestReport c kind address n payload (length destination) (length out) script) .handed) destination →
       out′ ≡ laid ((requestReport c kind address n payload (length destination) (length out) script) .sent) out →
       report′ ≡ laid (reportOfJob (requestReport c kind address n payload (length destination) (length out) script)) report →
       Gives call answer destination destination′ out out′ report report′
   unfolding jobCallOn tells
-  reported answer result destination′ out′ report′ e a r h s t =
-      gives _ _ _ _ _ _ _ _ _ (if-false _ _ _ e) (a ∙ ap (λ (x : Result). x .answer) r, h, s, t)
+  reported answer destination′ out′ report′ e a h s t = gives _ _ _ _ _ _ _ _ _ (if-false _ _ _ e) (a, h, s, t)

@@ -1,15 +1,12 @@
 // The functions that C and Rust call for a virtual chip: a controller in lent bytes.
 use crate::job::run_reported;
-use driver::result::JobResult;
 use virtual_chip::calls::ask;
 use virtual_chip::calls::make_fresh;
 use virtual_chip::record::load;
-use virtual_chip::record::store;
 ghost use mathlib.Core.Path.{_≡_};
 ghost use lib.ListN.{length};
-ghost use Rattle.driver.specs.Run.{resultOf};
 ghost use Rattle.notation.specs.Overlay.{laid};
-ghost use Rattle.perlovasta.specs.Job.{chipJobCall, resultLeft, chipAfterJob};
+ghost use Rattle.perlovasta.specs.Job.{chipJobCall, chipAfterJob};
 ghost use Rattle.virtual_chip.specs.Calls.{freshCall, accessCall};
 
 // A fresh controller: 0, or 10 where there is no room for it.
@@ -48,20 +45,6 @@ pub extern "C" fn perlovasta_chip_event_packed(chip: &mut [u8], event: u8, argum
     ask(chip, 2, event, argument)
 }
 
-// The record that a job left is stored; 21 and 22 left it as it was.
-fn keep(chip: &mut [u8], result: JobResult)
-    ensures { λ _. ⌜ now (chip .exit) ≡ laid (resultLeft (length (now (chip .entry))) (resultOf result)) (now (chip .entry)) ⌝ }
-{
-    let ending = result.ending;
-    let number = ending.number();
-    let malformed = number == 21;
-    let unready = number == 22;
-    if malformed | unready {
-        return;
-    }
-    store(chip, result.controller);
-}
-
 // A job on this controller, as `perlovasta_job` runs one on a fresh one.
 #[no_mangle]
 pub extern "C" fn perlovasta_chip_job(
@@ -86,7 +69,7 @@ pub extern "C" fn perlovasta_chip_job(
         return 21;
     }
     let c = load(chip);
-    let result = run_reported(
+    run_reported(
         c,
         kind,
         address,
@@ -96,8 +79,6 @@ pub extern "C" fn perlovasta_chip_job(
         out,
         script,
         report,
-    );
-    keep(chip, result);
-    let ending = result.ending;
-    ending.number()
+        chip,
+    )
 }

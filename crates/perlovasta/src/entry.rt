@@ -33,7 +33,8 @@ pub extern "C" fn perlovasta_job(
         return 21;
     }
     let c = fresh_enabled();
-    let result = run_reported(
+    let mut nowhere = [0u8; 1];
+    run_reported(
         c,
         kind,
         address,
@@ -43,9 +44,8 @@ pub extern "C" fn perlovasta_job(
         out,
         script,
         report,
-    );
-    let ending = result.ending;
-    ending.number()
+        &mut nowhere,
+    )
 }
 
 // One trace of three-byte groups on a fresh controller: 0. The log begins with eight bytes for each group. 21 where the trace is not

@@ -1,16 +1,14 @@
 -- `perlovasta_job` is `jobCall`: what is known at each return settles its test, and `run_reported` promises the rest.
 use mathlib.Core.Path.{ap, _∙_}
 use borrow.Author.Needs.{needs}
-use borrow.Author.Tests.{ltb-false}
 use lib.ListN.{length}
 use denote.Ref.{now}
 use Rattle.controller.specs.declared.record.Controller.{Controller}
-use Rattle.driver.specs.Run.{Report, resultOf}
+use Rattle.driver.specs.Run.{Report}
 use Rattle.notation.specs.Overlay.{laid}
 use Rattle.perlovasta.proofs.Answered.{short-report, reported}
 use Rattle.perlovasta.specs.Job.{requestReport}
 use Rattle.perlovasta.specs.ReportBytes.{reportOfJob}
-use Rattle.requests.proofs.FreshEnabled.{fresh-enabled-places}
 use Rattle.requests.specs.Jobs.{freshEnabled}
 use Rattle.perlovasta.proofs.entry.perlovasta_job.Statement.{statement}
 use Rattle.perlovasta.proofs.entry.perlovasta_job.Tie as tie
@@ -22,20 +20,10 @@ returns c =
     (now (s .report)) (c .if1 .taken) in
     (g .0, (g .1, (g .2, g .3)))
 
-run-reported-requires : tie.Need-run-reported-requires
-run-reported-requires c κs =
-    let fresh = c .before .before .before in
-    let test = fresh .before in
-    let report = now (test .before .before .before .before .before .before .args .report) in (
-      ltb-false (length report) 12 (test .if1 .left),
-      ap (λ (d : Controller). length (d .buffer)) (fresh .fresh-enabled .ensures) ∙ fresh-enabled-places,
-    )
-
 returns-2 : tie.Need-returns-2
-unfolding resultOf
 returns-2 c =
     let run = c .before .before .before .before .before .before .before in
-    let fresh = run .before .before .before .before in
+    let fresh = run .before .before .before .before .before in
     let s = fresh .before .before .before .before .before .before .before .args in
     let payload = now (s .payload) in
     let destination = now (s .destination) in
@@ -45,10 +33,9 @@ returns-2 c =
     let ran = run .run-reported .ensures in
     let asked : Controller → Report = λ d. requestReport d (s .kind) (s .address) (s .n) payload (length destination) (length out) script in
     let same = ap asked (fresh .fresh-enabled .ensures) in
-    let g = reported freshEnabled (s .kind) (s .address) (s .n) payload destination out script report _
-    (resultOf (run .run-reported .result)) _ _ _ (fresh .before .if1 .left) (c .number .ensures) (ran .0 ∙ ap (λ (r : Report). r .result) same)
-    (ran .1 .0 ∙ ap (λ (r : Report). laid (r .handed) destination) same) (ran .1 .1 .0 ∙ ap (λ (r : Report). laid (r .sent) out) same)
-    (ran .1 .1 .1 ∙ ap (λ (r : Report). laid (reportOfJob r) report) same) in
+    let g = reported freshEnabled (s .kind) (s .address) (s .n) payload destination out script report _ _ _ _ (fresh .before .if1 .left)
+    (ran .0 ∙ ap (λ (r : Report). r .result .answer) same) (ran .1 .0 ∙ ap (λ (r : Report). laid (r .handed) destination) same)
+    (ran .1 .1 .0 ∙ ap (λ (r : Report). laid (r .sent) out) same) (ran .1 .1 .1 .0 ∙ ap (λ (r : Report). laid (reportOfJob r) report) same) in
     (g .0, (g .1, (g .2, g .3)))
 
 pub perlovasta-job-spec : {M : Type 1} → statement M
@@ -57,7 +44,7 @@ perlovasta-job-spec =
     (tie.spec
     returns
     (λ c κs. search needs)
-    run-reported-requires
+    (λ c. search needs)
     (λ c κs. search needs)
     (λ c. search needs)
     (λ c. search needs)

@@ -29,23 +29,14 @@ returns-3 c =
       cases,
     ))
 
-event-sound-requires : tie.Need-event-sound-requires
-event-sound-requires c κs = sym (c .before .is-sound .ensures) ∙ c .if4 .taken
+event-effect-requires : tie.Need-event-effect-requires
+event-effect-requires c κs = sym (c .before .is-sound .ensures) ∙ c .if4 .taken
 
 after-event-requires : tie.Need-after-event-requires
 after-event-requires c κs = sym (c .before .before .is-sound .ensures) ∙ c .before .if4 .taken
 
 returns-4 : tie.Need-returns-4
-unfolding eventOf
-returns-4 c =
-    let checked = c .before .before .before .before in
-    c .after-event .ensures ∙ c .before .event-sound .ensures
-    ∙ search (
-      sym (c .before .before .before .is-sound .ensures) ∙ c .before .before .if4 .taken,
-      sym (checked .before .before .is-bad-argument .ensures) ∙ checked .before .if2 .left,
-      sym (checked .before .before .before .before .is-no-event .ensures) ∙ checked .before .before .before .if1 .left,
-      cases,
-    )
+returns-4 c = c .after-event .ensures ∙ c .before .event-effect .ensures
 
 returns-5 : tie.Need-returns-5
 unfolding eventOf
@@ -71,7 +62,7 @@ event-spec =
     (λ c κs. search needs)
     returns-3
     (λ c κs. search needs)
-    event-sound-requires
+    event-effect-requires
     after-event-requires
     (λ c κs. search needs)
     returns-4

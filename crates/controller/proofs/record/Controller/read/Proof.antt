@@ -10,17 +10,14 @@ returns : tie.Need-returns
 unfolding readOf
 returns c = search cases
 
-read-sound-requires : tie.Need-read-sound-requires
-read-sound-requires c κs = sym (c .before .is-sound .ensures) ∙ c .if2 .taken
+read-effect-requires : tie.Need-read-effect-requires
+read-effect-requires c κs = sym (c .before .is-sound .ensures) ∙ c .if2 .taken
 
 after-read-requires : tie.Need-after-read-requires
 after-read-requires c κs = sym (c .before .before .is-sound .ensures) ∙ c .before .if2 .taken
 
 returns-2 : tie.Need-returns-2
-unfolding readOf
-returns-2 c =
-    c .after-read .ensures ∙ c .before .read-sound .ensures
-    ∙ search (sym (c .before .before .before .is-sound .ensures) ∙ c .before .before .if2 .taken, cases)
+returns-2 c = c .after-read .ensures ∙ c .before .read-effect .ensures
 
 returns-3 : tie.Need-returns-3
 unfolding readOf
@@ -33,7 +30,7 @@ read-spec =
     (λ c κs. search needs)
     returns
     (λ c κs. search needs)
-    read-sound-requires
+    read-effect-requires
     after-read-requires
     (λ c κs. search needs)
     returns-2

@@ -10,17 +10,14 @@ returns : tie.Need-returns
 unfolding writeOf
 returns c = search cases
 
-write-sound-requires : tie.Need-write-sound-requires
-write-sound-requires c κs = sym (c .before .is-sound .ensures) ∙ c .if2 .taken
+write-effect-requires : tie.Need-write-effect-requires
+write-effect-requires c κs = sym (c .before .is-sound .ensures) ∙ c .if2 .taken
 
 after-write-requires : tie.Need-after-write-requires
 after-write-requires c κs = sym (c .before .before .is-sound .ensures) ∙ c .before .if2 .taken
 
 returns-2 : tie.Need-returns-2
-unfolding writeOf
-returns-2 c =
-    c .after-write .ensures ∙ c .before .write-sound .ensures
-    ∙ search (sym (c .before .before .before .is-sound .ensures) ∙ c .before .before .if2 .taken, cases)
+returns-2 c = c .after-write .ensures ∙ c .before .write-effect .ensures
 
 returns-3 : tie.Need-returns-3
 unfolding writeOf
@@ -33,7 +30,7 @@ write-spec =
     (λ c κs. search needs)
     returns
     (λ c κs. search needs)
-    write-sound-requires
+    write-effect-requires
     after-write-requires
     (λ c κs. search needs)
     returns-2

@@ -11,8 +11,8 @@ use Rattle.notation.specs.Choice.{_or_}
 use Rattle.notation.specs.Overlay.{laid}
 use Rattle.virtual_chip.proofs.Joined.{either}
 use Rattle.perlovasta.specs.Job.{resultLeft}
-use Rattle.perlovasta.proofs.chip.keep.Statement.{statement}
-use Rattle.perlovasta.proofs.chip.keep.Tie as tie
+use Rattle.perlovasta.proofs.job.keep.Statement.{statement}
+use Rattle.perlovasta.proofs.job.keep.Tie as tie
 
 returns : tie.Need-returns
 unfolding resultLeft resultOf laid
