@@ -1,7 +1,7 @@
 -- A state's bytes lead back to the port that they were made of, and bytes are handed up once. Assumes nothing.
 use mathlib.Core.Bool.{Bool, true, false, not}
 use mathlib.Core.List.{List, [], _∷_, _++_, append-assoc}
-use mathlib.Core.Path.{_≡_, refl, sym, ap, _∙_}
+use mathlib.Core.Path.{_≡_, refl, sym, ap, subst, _∙_}
 use Prim.Native.Nat.{ℕ, _≤_}
 use native.Mathlib.Omega.{arith}
 use borrow.Author.Tests.{le-ltb, eq-eqb}
@@ -13,15 +13,17 @@ use Rattle.address.specs.declared.number.Direction.the-variants.{Write, Read}
 use Rattle.address.specs.declared.number.Direction.{Direction}
 use Rattle.notation.proofs.Laid.{laid-whole, laid-length, part-length}
 use Rattle.dock.proofs.Padded.{padded-length}
-use Rattle.dock.specs.Calls.{StepCall, TakeCall, tooShort, telling, nextCall, emptied, taking, takeCall}
-use Rattle.dock.specs.ReadBack.{ReadBack, stateAfter, CallsInTurn, TakenOnce}
+use Rattle.dock.specs.Calls.{StepCall, TakeCall, tooShort, telling, nextCall, giveUpCall, emptied, taking, takeCall}
+use Rattle.dock.specs.ReadBack.{ReadBack, stateAfter, CallsInTurn}
+use Rattle.dock.specs.ReadBack.{Between, goesOn, givesUp, takesAgain, stateBetween, stateThrough, TakenOnce}
 use Rattle.dock.specs.StateBytes.{bit, headBytes, bytesOf, marked, standOf, portOf}
 use Rattle.notation.proofs.Cases.{if-true, if-false}
 use Rattle.notation.specs.Choice.{if_then_else_, _and_}
 use Rattle.notation.specs.Overlay.{laid}
+use Rattle.port.specs.Begin.{giveUpOf}
 use Rattle.port.specs.HandUp.{Taken, nothing, takeOf}
 use Rattle.port.specs.Hear.{hears, hearsAt}
-use Rattle.port.specs.Port.{Port, padded, step, afterAll, taken}
+use Rattle.port.specs.Port.{Port, step, afterAll, givenUp, taken}
 use Rattle.port.specs.Stage.{stageNumber, stageFor}
 use Rattle.port.specs.Stand.{stand, brokenOff}
 use Rattle.port.specs.declared.stage.Stage.the-variants.{Over, Control, Status, First, Waiting, Look, Interrupted, Working, Recovering, Pausing, Recheck}
@@ -105,39 +107,69 @@ calls-in-turn m (value ∷ values) l =
     let n = laid-length (nextCall m value .state) m in
     calls-in-turn (laid (nextCall m value .state) m) values (omega (arith, n, l)) ∙ ap (λ (p : Port). afterAll p values) (one-call m value l)
 
--- a state keeps its length
-state-length : (m values : List ℕ) → length (stateAfter m values) ≡ length m
-unfolding stateAfter
-state-length m [] = refl
-state-length m (value ∷ values) = state-length (laid (nextCall m value .state) m) values ∙ laid-length (nextCall m value .state) m
-
--- over with 21, whatever is heard after it, there is nothing to take
-none-left : (stale : Bool) (values payload fetched : List ℕ) (room : ℕ) →
-    taken (afterAll (record { stand = brokenOff 21 stale; payload = payload; fetched = fetched }) values) room ≡ nothing 21
-unfolding afterAll step hears hearsAt takeOf stageNumber if_then_else_
-none-left stale [] payload fetched room = refl
-none-left stale (value ∷ values) payload fetched room = none-left stale values payload _ room
+-- Nothing to take: over, with an answer that is not 0.
+record Spent (m : List ℕ) : Type 0 where
+  answer : ℕ
+  stale : Bool
+  stand-is : portOf m .stand ≡ brokenOff answer stale
+  other : eqb answer 0 ≡ false
+  long : 148 ≤ length m
 
 take-is : (m : List ℕ) (room : ℕ) → 148 ≤ length m → takeCall m room ≡ taking (portOf m) (taken (portOf m) room)
 unfolding takeCall tooShort
 take-is m room l = if-false _ _ _ (le-ltb (length m) 148 l)
 
+-- so a take gives its answer and nothing else
+spent-take : (m : List ℕ) (room : ℕ) (s : Spent m) → takeCall m room ≡ record { answer = s .answer; handed = []; state = [] }
+unfolding taking takeOf stageNumber
+spent-take m room s =
+    let nothing-there : taken (portOf m) room ≡ nothing (s .answer) =
+    ap (λ (x : Stand). takeOf x (portOf m .fetched) room) (s .stand-is) ∙ if-false _ _ _ refl ∙ if-true _ _ _ (ap not (s .other)) in
+    take-is m room (s .long)
+    ∙ ap (taking (portOf m)) nothing-there
+    ∙ ap (λ (xs : List ℕ). record { answer = s .answer; handed = []; state = xs }) (if-false _ _ _ (s .other))
+
+-- a port that is laid there
+spent-laid : (p : Port) (m : List ℕ) (answer : ℕ) (stale : Bool) → p .stand ≡ brokenOff answer stale → eqb answer 0 ≡ false → length (p .payload) ≡ 68 →
+    length (p .fetched) ≡ 68 → 148 ≤ length m → Spent (laid (bytesOf p) m)
+spent-laid p m answer stale e o a b l =
+    let n = laid-length (bytesOf p) m in
+    record { answer = answer; stale = stale; stand-is = ap (λ (q : Port). q .stand) (read-back p m a b l) ∙ e; other = o; long = omega (arith, n, l) }
+
+-- and stays so, whatever is done
+spent-between : (m : List ℕ) (x : Between) → Spent m → Spent (stateBetween m x)
+unfolding stateBetween giveUpCall tooShort telling givenUp giveUpOf step hears hearsAt portOf laid
+spent-between m (goesOn value) s =
+    let n = laid-length (nextCall m value .state) m in
+    record {
+      answer = s .answer;
+      stale = s .stale;
+      stand-is = ap (λ (q : Port). q .stand) (one-call m value (s .long)) ∙ ap (λ (x : Stand). hears x (portOf m .payload) value) (s .stand-is);
+      other = s .other;
+      long = let l = s .long in omega (arith, n, l);
+    }
+spent-between m givesUp s =
+    let l = s .long in
+    let call = if-false _ _ _ (le-ltb (length m) 148 l) in
+    subst Spent (sym (ap (λ (c : StepCall). laid (c .state) m) call))
+    (spent-laid (givenUp (portOf m)) m 27 true refl refl (part-length 12 m (omega (arith, l))) (part-length 80 m (omega (arith, l))) l)
+spent-between m (takesAgain room) s = subst Spent (sym (ap (λ (c : TakeCall). laid (c .state) m) (spent-take m room s))) s
+
+spent-through : (m : List ℕ) (xs : List Between) → Spent m → Spent (stateThrough m xs)
+unfolding stateThrough
+spent-through m [] s = s
+spent-through m (x ∷ xs) s = spent-through (stateBetween m x) xs (spent-between m x s)
+
 -- BYTES ARE HANDED UP ONCE.
 pub taken-once : TakenOnce
 unfolding taking emptied portOf
-taken-once m values room again l zero =
+taken-once m xs room again l zero =
     let p = portOf m in
-    let after-take = laid (takeCall m room .state) m in
-    let after = stateAfter after-take values in
     let first = take-is m room l in
     let done = eq-eqb _ 0 (sym (ap (λ (c : TakeCall). c .answer) first) ∙ zero) in
     let left = ap (λ (c : TakeCall). c .state) first ∙ if-true _ _ _ done in
-    let back = ap (λ (xs : List ℕ). portOf (laid xs m)) left ∙ read-back (emptied p) m (part-length 12 m (omega (arith, l))) (padded-length []) l in
-    let n = laid-length (takeCall m room .state) m in
-    let k = state-length after-take values in
-    let port = calls-in-turn after-take values (omega (arith, n, l)) ∙ ap (λ (q : Port). afterAll q values) back in
-    let gone = ap (λ (q : Port). taken q again) port ∙ none-left (p .stand .stale) values (p .payload) (padded []) again in
-    let second = take-is after again (omega (arith, n, k, l)) in (
-      ap (λ (c : TakeCall). c .answer) second ∙ ap (λ (t : Taken). t .answer) gone,
-      ap (λ (c : TakeCall). c .handed) second ∙ ap (λ (t : Taken). t .handed) gone,
-    )
+    let spent = subst Spent (sym (ap (λ (ys : List ℕ). laid ys m) left))
+    (spent-laid (emptied p) m 21 (p .stand .stale) refl refl (part-length 12 m (omega (arith, l))) (padded-length []) l) in
+    let after = spent-through (laid (takeCall m room .state) m) xs spent in
+    let second = spent-take (stateThrough (laid (takeCall m room .state) m) xs) again after in
+    (ap (λ (c : TakeCall). eqb (c .answer) 0) second ∙ after .other, ap (λ (c : TakeCall). c .handed) second)

@@ -13,7 +13,8 @@ use Rattle.notation.specs.Choice.{if_then_else_, _or_, among}
 use Rattle.notation.specs.Overlay.{laid}
 use Rattle.perlovasta.proofs.JobPlaces.{request-placed}
 use Rattle.perlovasta.specs.ChipIsController.{Asked, access, job, replied}
-use Rattle.perlovasta.specs.ChipIsController.{callGives, bytesAfter, ruleGives, recordAfter, callsGive, rulesGive, ChipIsController}
+use Rattle.perlovasta.specs.ChipIsController.{callGives, bytesAfter, ruleGives, recordAfter}
+use Rattle.perlovasta.specs.ChipIsController.{callsGive, bytesLeft, rulesGive, recordLeft, ChipIsController}
 use Rattle.perlovasta.specs.Job.{JobCall, requestReport, jobCallOn, resultLeft, chipAfterJob}
 use Rattle.requests.specs.Jobs.{jobFor}
 use Rattle.runs.proofs.Demand1.{demand-1}
@@ -72,11 +73,13 @@ one report m (job j) room there =
 
 -- THE VIRTUAL CHIP IS THE CONTROLLER.
 pub chip-is-controller : ChipIsController
-unfolding callsGive rulesGive
-chip-is-controller report m [] room there = refl
+unfolding callsGive bytesLeft rulesGive recordLeft
+chip-is-controller report m [] room there = (refl, refl)
 chip-is-controller report m (x ∷ xs) room there =
     let first = one report m x room there in
     let next = bytesAfter report m x in
-    ap (λ (g : JobCall). g ∷ callsGive report next xs) (first .0)
-    ∙ ap (λ (gs : List JobCall). ruleGives (recordOf m) x ∷ gs)
-    (chip-is-controller report next xs room (first .1 .0) ∙ ap (λ (c : Controller). rulesGive c xs) (first .1 .1))
+    let rest = chip-is-controller report next xs room (first .1 .0) in (
+      ap (λ (g : JobCall). g ∷ callsGive report next xs) (first .0)
+          ∙ ap (λ (gs : List JobCall). ruleGives (recordOf m) x ∷ gs) (rest .0 ∙ ap (λ (c : Controller). rulesGive c xs) (first .1 .1)),
+      rest .1 ∙ ap (λ (c : Controller). recordLeft c xs) (first .1 .1),
+    )

@@ -49,15 +49,24 @@ unfoldable pub recordAfter : Controller → Asked → Controller
 recordAfter c (access g) = groupOf c (g .kind) (g .place) (g .value) .next
 recordAfter c (job j) = (requestReport c (j .kind) (j .address) (j .n) (j .payload) (j .destinationLength) (j .outLength) (j .script)) .result .next
 
--- one after the other
+-- one after the other: what is given, and what is left
 unfoldable pub callsGive : ℕ → List ℕ → List Asked → List JobCall
 callsGive report m [] = []
 callsGive report m (x ∷ xs) = callGives report m x ∷ callsGive report (bytesAfter report m x) xs
+
+unfoldable pub bytesLeft : ℕ → List ℕ → List Asked → List ℕ
+bytesLeft report m [] = m
+bytesLeft report m (x ∷ xs) = bytesLeft report (bytesAfter report m x) xs
 
 unfoldable pub rulesGive : Controller → List Asked → List JobCall
 rulesGive c [] = []
 rulesGive c (x ∷ xs) = ruleGives c x ∷ rulesGive (recordAfter c x) xs
 
--- on bytes that are a record, sound or not, with reports that have room for 12 bytes: all that is given, from the first to the last
+unfoldable pub recordLeft : Controller → List Asked → Controller
+recordLeft c [] = c
+recordLeft c (x ∷ xs) = recordLeft (recordAfter c x) xs
+
+-- on bytes that are a record, sound or not, with reports that have room for 12 bytes: all that is given, from the first to the last, and the record left
 abbrev pub ChipIsController : Type 0
-ChipIsController = (report : ℕ) (m : List ℕ) (xs : List Asked) → 12 ≤ report → isRecord m ≡ true → callsGive report m xs ≡ rulesGive (recordOf m) xs
+ChipIsController = (report : ℕ) (m : List ℕ) (xs : List Asked) → 12 ≤ report → isRecord m ≡ true →
+    (callsGive report m xs ≡ rulesGive (recordOf m) xs) × (recordOf (bytesLeft report m xs) ≡ recordLeft (recordOf m) xs)
