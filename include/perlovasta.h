@@ -16,7 +16,9 @@
 
 #include "perlovasta_terms.h"
 
-#define PERLOVASTA_STACK 3072u /* bytes at most, of one call */
+/* Bytes at most, of one call. Up to 512 of them are for those functions that this
+ * header has compiled into the caller. */
+#define PERLOVASTA_STACK 3072u
 #define PERLOVASTA_OUT 69u     /* least length of out: address byte and data */
 #define PERLOVASTA_REPORT 12u  /* least length of report */
 #define PERLOVASTA_GROUP 3u    /* bytes of a trace for each access or event */
@@ -42,7 +44,8 @@ enum perlovasta_event_number {
 };
 
 /* Why an access or event is refused. A refusal changes nothing, and its value is
- * 0. The first that applies is given, in the order 1, 2, 10, 9, 3, 4, 5, 6, 7, 8. */
+ * 0. Bytes that are no record are refused 10, whatever is asked. For a record the
+ * first that applies is given, in the order 1, 2, 10, 9, 3, 4, 5, 6, 7, 8. */
 enum perlovasta_refusal_number {
     PERLOVASTA_ACCEPTED = 0,
     PERLOVASTA_REFUSAL_OUT_OF_RANGE = 1, /* register over 3, or event not 1..14 */
@@ -121,7 +124,8 @@ extern "C" {
  *                2       the count: n for 0, for 24 the data bytes moved with
  *                        the one not acknowledged, else 0
  *                3       how many bytes were sent, 0..69: out begins with them
- *                4..11   pairs taken, low byte first
+ *                4..11   pairs taken, low byte first; the one refused, for 28, is
+ *                        not counted
  *
  * Where n, address, kind or a length is wrong, or the script is of odd length, it
  * is answered 21: the report says so, and all else stays. For a report of under
@@ -151,8 +155,11 @@ perlovasta_job(uint8_t kind, uint8_t address, uint8_t n,
  *             NACK in events 5, 7 and 8, else 0
  *          2  register 0 (I2CSTA) after it
  *          3  register 3 (I2CCON) after it
- *          4  hand place after it
- *          5  moved count after it
+ *          4  hand place after it: the place of the buffer, 0 to 68, that I2CDAT
+ *             reads or writes next. Each such access moves it on by one; an
+ *             accepted write of I2CCON, or a new status but F8h, puts it to 0
+ *          5  moved count after it: the data bytes moved since the last accepted
+ *             write of I2CCON
  *          6  three things after it, taken apart by the functions below
  *          7  turn after it
  */
@@ -175,7 +182,11 @@ perlovasta_trace(const uint8_t *trace, size_t trace_len, uint8_t *log, size_t lo
  * Any bytes are answered. Those that are no record are refused 10 whatever is
  * asked, event 14 too: under 88 of them, no mark, or a turn, a reason or a flag
  * that there is not. A record that is not sound is refused 10 too, after 1 and 2;
- * event 14 resets it.
+ * event 14 resets it. A record is sound if the pointer is at most 7, hand place
+ * and moved count at most 68, I2CMODE at most 3, the status in Host one that the
+ * controller gives, and in Send, Receive, SlaveReceive and SlaveSend the moved
+ * count is 0 with MODE 0, and with MODE 1 below BC, which is at most 68 (BC is the
+ * low seven bits of I2CCOUNT). What is accepted leaves it sound.
  */
 
 /* The bytes now hold a fresh controller, as that of a trace, its buffer all zeros.
@@ -183,8 +194,9 @@ perlovasta_trace(const uint8_t *trace, size_t trace_len, uint8_t *log, size_t lo
 PERLOVASTA_LOOK PERLOVASTA_NO_NULL uint8_t
 perlovasta_chip_fresh(uint8_t *chip, size_t chip_len);
 
-/* The reply of an access or event in one number: the refusal in bits 0 to 7, the
- * value in bits 8 to 15. The functions below take it apart. */
+/* For the headers alone: the reply of an access or event in one number, the refusal
+ * in bits 0 to 7, the value in bits 8 to 15. perlovasta_chip_read, _write and
+ * _event below make a reply of it. */
 PERLOVASTA_LOOK PERLOVASTA_NO_NULL uint32_t
 perlovasta_chip_read_packed(uint8_t *chip, size_t chip_len, uint8_t reg);
 PERLOVASTA_LOOK PERLOVASTA_NO_NULL uint32_t
@@ -196,7 +208,9 @@ perlovasta_chip_event_packed(uint8_t *chip, size_t chip_len, uint8_t event, uint
  * As perlovasta_job, on the controller in these bytes, which is left as the job
  * leaves it. 22 where it is not ready: its turn is not Free, ENSIO is 0, STA is 1,
  * it is not sound, or the bytes are no record; so after 25, until status 38h is
- * left. 21 comes first. Both leave the chip's bytes as they were.
+ * left. 21 comes first. Both leave the chip's bytes as they were. After 26 to 29
+ * event 14 and then a write of 40h to I2CCON make it ready again; its registers
+ * are as after reset then.
  */
 PERLOVASTA_LOOK PERLOVASTA_NO_NULL uint8_t
 perlovasta_chip_job(uint8_t *chip, size_t chip_len,
@@ -274,19 +288,19 @@ perlovasta_chip_read_job(uint8_t *chip, size_t chip_len, uint8_t address, uint8_
 /* What a report of at least 12 bytes says, once a job has written it: the answer;
  * for answer 28 why the event was refused, else 0; the count; how many bytes were
  * sent, with which out begins; how many pairs of the script were taken. */
-static inline uint8_t perlovasta_report_answer(const uint8_t *report) {
+PERLOVASTA_NO_NULL static inline uint8_t perlovasta_report_answer(const uint8_t *report) {
     return report[0];
 }
-static inline uint8_t perlovasta_report_refusal(const uint8_t *report) {
+PERLOVASTA_NO_NULL static inline uint8_t perlovasta_report_refusal(const uint8_t *report) {
     return report[1];
 }
-static inline uint8_t perlovasta_report_count(const uint8_t *report) {
+PERLOVASTA_NO_NULL static inline uint8_t perlovasta_report_count(const uint8_t *report) {
     return report[2];
 }
-static inline uint8_t perlovasta_report_sent(const uint8_t *report) {
+PERLOVASTA_NO_NULL static inline uint8_t perlovasta_report_sent(const uint8_t *report) {
     return report[3];
 }
-static inline uint64_t perlovasta_report_pairs(const uint8_t *report) {
+PERLOVASTA_NO_NULL static inline uint64_t perlovasta_report_pairs(const uint8_t *report) {
     uint64_t pairs = 0;
     for (size_t i = PERLOVASTA_REPORT; i > 4; i--)
         pairs = pairs << 8 | report[i - 1];
@@ -296,13 +310,13 @@ static inline uint64_t perlovasta_report_pairs(const uint8_t *report) {
 /* What a log says of group k, counted from 0 and below the number of groups, once
  * perlovasta_trace has returned 0: why a move ended; the pointer, 0 to 7; 1 if the
  * software reset is armed, else 0. */
-static inline uint8_t perlovasta_log_reason(const uint8_t *log, size_t k) {
+PERLOVASTA_NO_NULL static inline uint8_t perlovasta_log_reason(const uint8_t *log, size_t k) {
     return log[k * PERLOVASTA_ENTRY + 6] >> 4 & 7;
 }
-static inline uint8_t perlovasta_log_pointer(const uint8_t *log, size_t k) {
+PERLOVASTA_NO_NULL static inline uint8_t perlovasta_log_pointer(const uint8_t *log, size_t k) {
     return log[k * PERLOVASTA_ENTRY + 6] & 15;
 }
-static inline uint8_t perlovasta_log_armed(const uint8_t *log, size_t k) {
+PERLOVASTA_NO_NULL static inline uint8_t perlovasta_log_armed(const uint8_t *log, size_t k) {
     return log[k * PERLOVASTA_ENTRY + 6] >> 7;
 }
 

@@ -12,6 +12,7 @@
  *             case PERLOVASTA_READ_REGISTER:  value = read register; break;
  *             case PERLOVASTA_WAIT:  wait for an interrupt, 1 ms at most; break;
  *             case PERLOVASTA_PAUSE: wait 550 us; break;
+ *             case PERLOVASTA_OVER:  break;
  *             }
  *             step = the clock ran out
  *                  ? perlovasta_give_up(state, sizeof state)
@@ -49,7 +50,9 @@
 
 #include "perlovasta_terms.h"
 
-#define PERLOVASTA_DOCK_STACK 256u /* bytes at most, of one call */
+/* Bytes at most, of one call into libdock.a. perlovasta_take_read, which this header
+ * has compiled into the caller, takes up to 512 more there. */
+#define PERLOVASTA_DOCK_STACK 256u
 
 /* Bytes of a state. Any content is answered, and zeros are a state that is over
  * with 22 and wants a recovery first. (Bytes that begin with 50h 76h are taken
@@ -71,9 +74,12 @@ enum perlovasta_step_kind {
     PERLOVASTA_OVER = 5            /* nothing any more: the answer, and its count */
 };
 
-/* 1 to 5, as above. 0 is no step. */
-static inline unsigned perlovasta_kind(perlovasta_step step) {
-    return step & 0xFFu;
+/* 1 to 5, as above; 0 for a number that is no step, which no function gives. A
+ * switch over it without default has to name all five: so one that has
+ * PERLOVASTA_READ, the kind of a job, for PERLOVASTA_READ_REGISTER is refused. */
+static inline enum perlovasta_step_kind perlovasta_kind(perlovasta_step step) {
+    unsigned kind = step & 0xFFu;
+    return (enum perlovasta_step_kind)(kind <= PERLOVASTA_OVER ? kind : 0u);
 }
 
 /* Of a read or write: which one, enum perlovasta_register_number. */
@@ -86,15 +92,20 @@ static inline uint8_t perlovasta_value(perlovasta_step step) {
     return (uint8_t)(step >> 16);
 }
 
-/* Of a step that is over: the answer, enum perlovasta_answer_number. */
+/* Of a step that is over: the answer, enum perlovasta_answer_number. Of any other
+ * PERLOVASTA_UNFINISHED, so never 0. */
 static inline uint8_t perlovasta_answer(perlovasta_step step) {
+    if (perlovasta_kind(step) != PERLOVASTA_OVER)
+        return PERLOVASTA_UNFINISHED;
     return (uint8_t)(step >> 8);
 }
 
 /* Of a step that is over: n for answer 0 of a job; for 24 what the board's
  * counter at pointer 07h read, the data bytes moved with the one not
- * acknowledged (a bare chip has no such register); else 0. */
+ * acknowledged (a bare chip has no such register); else 0. Of any other step 0. */
 static inline uint8_t perlovasta_count(perlovasta_step step) {
+    if (perlovasta_kind(step) != PERLOVASTA_OVER)
+        return 0;
     return (uint8_t)(step >> 16);
 }
 
@@ -111,8 +122,9 @@ extern "C" {
  * n        1..68, how many data bytes
  * data     of a write, at least n bytes, copied now; not looked at for a read
  *
- * Whatever the state held before: nothing of it shows any more, and what was
- * under way is given up, also where the job is refused. 21 comes before 22.
+ * Whatever the state held before: nothing of it shows any more but whether a
+ * recovery is wanted, and what was under way is given up, also where the job is
+ * refused. 21 comes before 22.
  *
  * Answers, in a step that is over:
  *   0  done: own STOP was seen
@@ -126,8 +138,9 @@ extern "C" {
  *  25  arbitration lost. The chip stays at status 38h until another's STOP;
  *      jobs begun before that are 22. Where 22 does not end: perlovasta_recover
  *  26  bus fault: status 00h, 70h or 78h; perlovasta_recover
- *  27  given up; perlovasta_recover. (It may hide a 25: the chip left 38h
- *      between the look at I2CCON and that at I2CSTA)
+ *  27  given up; perlovasta_recover. It may also stand for a lost arbitration:
+ *      where another's STOP freed the chip between two looks at it, the port did
+ *      not see that, and went on waiting
  *  29  the chip was reset: ENSIO reads 0 after a wait, or I2CCON is not as it was
  *      once the bytes of a read are read back; perlovasta_recover
  */
@@ -162,7 +175,8 @@ perlovasta_next(uint8_t *state, size_t state_len, uint8_t value);
 
 /*
  * The caller's clock ran out. It is over with 27, whatever was under way, and
- * no job begins until perlovasta_recover was run to its end.
+ * no job begins until perlovasta_recover was run to its end. Bytes that were not
+ * taken before can't be taken any more.
  */
 PERLOVASTA_LOOK PERLOVASTA_NO_NULL perlovasta_step
 perlovasta_give_up(uint8_t *state, size_t state_len);
@@ -171,11 +185,12 @@ perlovasta_give_up(uint8_t *state, size_t state_len);
  * The bytes of a finished read go to the destination. Returns 0 exactly if the
  * job is over, is a read and was answered 0, its bytes were not taken before, and
  * the destination has at least n bytes: its first n bytes are written then, its
- * rest stays, and the bytes are gone from the state, which is over with 21 from
- * then on. So the bytes of one read can be taken once. Else nothing is written,
- * the state stays too, and it returns why: 27 if it is not over; else the answer,
- * if that is not 0; else 21, since it was no read or the destination is too short.
- * Take the bytes before the next start or recovery, which clears them.
+ * rest stays, and the bytes are gone from the state, which is over with 21 until
+ * the next start, recovery or give-up. So the bytes of one read can be taken once.
+ * Else nothing is written, the state stays too, and it returns why: 27 if it is
+ * not over; else the answer, if that is not 0; else 21, since it was no read or
+ * the destination is too short. After the next start, recovery or give-up bytes
+ * that were not taken can't be taken any more.
  */
 PERLOVASTA_LOOK PERLOVASTA_NO_NULL uint8_t
 perlovasta_take(uint8_t *state, size_t state_len, uint8_t *destination,
@@ -186,26 +201,36 @@ perlovasta_take(uint8_t *state, size_t state_len, uint8_t *destination,
 #endif
 
 /*
- * The bytes of the read that ended with this step: for PERLOVASTA_IF_DONE. It goes
- * by the step's answer and by that of perlovasta_take, so that the bytes of an
- * earlier read are never taken for those of a job that failed. 21 for a recovery.
+ * The bytes of the read that ended with this step: for PERLOVASTA_IF_DONE. The
+ * step has to be the last that this state gave. It goes by the step's answer and
+ * by that of perlovasta_take, so that the bytes of an earlier read are never taken
+ * for those of a job that failed. 21 for a recovery, and where the state holds a
+ * read of another length than the step says; the bytes of a shorter one are gone
+ * then.
  */
 PERLOVASTA_LOOK PERLOVASTA_NO_NULL static inline perlovasta_read_result
 perlovasta_take_read(uint8_t *state, size_t state_len, perlovasta_step over) {
     perlovasta_read_result read = {0, 0, {0}};
     uint8_t answer = perlovasta_answer(over), n = perlovasta_count(over);
-    if (perlovasta_kind(over) != PERLOVASTA_OVER)
-        answer = PERLOVASTA_UNFINISHED;
+    uint8_t shorter[PERLOVASTA_PLACES]; /* where a read that has room in n - 1 would go */
     if (answer == PERLOVASTA_DONE && (n == 0 || n > PERLOVASTA_PLACES))
         answer = PERLOVASTA_MALFORMED;
+    if (answer == PERLOVASTA_DONE &&
+        perlovasta_take(state, state_len, shorter, n - 1u) == PERLOVASTA_DONE)
+        answer = PERLOVASTA_MALFORMED;
     if (answer == PERLOVASTA_DONE)
-        answer = perlovasta_take(state, state_len, read.bytes, sizeof read.bytes);
+        answer = perlovasta_take(state, state_len, read.bytes, n);
     return perlovasta_ended(read, answer, n);
 }
 
-/* An answer of the port in words. */
+/* An answer of the port in words: of a start, a recovery or a take. */
 static inline const char *perlovasta_port_words(uint8_t answer) {
-    return answer == PERLOVASTA_UNFINISHED ? "given up" : perlovasta_words(answer);
+    switch (answer) {
+    case PERLOVASTA_MALFORMED:
+        return "kind, address, count, settings or a length is wrong, or there are no bytes to take";
+    case PERLOVASTA_UNFINISHED: return "given up";
+    default: return perlovasta_words(answer);
+    }
 }
 
 #endif

@@ -4,14 +4,25 @@
  * perlovasta.h and perlovasta_dock.h.
  *
  * Compile with -Wall -Wextra -Wconversion -Werror, by gcc or clang, as C11 or
- * C++11. An answer that is dropped, or kept where nothing reads it, is an error
- * then, and so is NULL for a pointer, a step or a reply taken for an answer or a
- * byte, and the bytes of a read outside the block below.
+ * C++11. Then each of these is an error:
+ *   - an answer that is dropped, or put into a local variable that nothing reads
+ *   - NULL for a pointer, where the compiler sees that it is NULL
+ *   - a step of the port put into a byte, as if it were the answer
+ *   - a reply of a virtual chip taken for a byte or a bool
+ *   - a read's name, and so its bytes, after the block below
  *
- * What C can't refuse: an array of one's own, lent as a destination and used
- * before the answer is looked at. `if (perlovasta_job(..))` compiles, and means
- * that the job has failed, since 0 is done. Each step of the port is true. clang
- * lets an answer be dropped by (void); gcc does not.
+ * What C can't refuse, so it compiles:
+ *   - an array of one's own, lent as a destination and used before the answer is
+ *     looked at
+ *   - the bytes of a perlovasta_read_result that is kept in a variable, with no
+ *     block: where the answer is not 0 they are zeros, and n is 0
+ *   - an answer that is put into a global, or overwritten by that of the next
+ *     call, or read by `(void)answer;` alone
+ *   - `(void)perlovasta_job(..)`, by clang; gcc refuses it
+ *   - `if (perlovasta_job(..))`: true where the job failed, since 0 is done
+ *   - `if (perlovasta_next(..))`, which is always true, since no step is 0, and
+ *     `if (step == PERLOVASTA_DONE)`, which never is: perlovasta_answer has the
+ *     answer of a step
  *
  * For every pointer: it is never NULL, also where its length is 0; the bytes it
  * lends are as many as its length says; and no two of the slices of one call
@@ -130,11 +141,16 @@ perlovasta_ended(perlovasta_read_result read, uint8_t answer, uint8_t n) {
  *     if (answer != PERLOVASTA_DONE)
  *         .. perlovasta_words(answer) ..
  *
- * The answer is stored whatever it is. After the block there is no `badge`, so
- * that its use there does not compile. break and continue leave the block.
+ * The answer is stored once, before the block, whatever it is: a block that finds
+ * the bytes wrong can store another. After the block there is no `badge`, so that
+ * its use there does not compile: bytes that are wanted later have to be copied in
+ * the block. break and continue leave it. It has no else: after
+ * `if (x) PERLOVASTA_IF_DONE(..) {..}` an else is that of the `if (x)`.
  * (`stored` has no brackets: clang would take it for read then.)
  */
-#define PERLOVASTA_IF_DONE(read, stored, call) \
-    for (perlovasta_read_result read = (call); stored = read.answer, read.n != 0; read.n = 0)
+#define PERLOVASTA_IF_DONE(read, stored, call)                                  \
+    for (perlovasta_read_result read = (call),                                  \
+             *read##_once = (stored = read.answer, read.n != 0) ? &read : NULL; \
+         read##_once != NULL; read##_once = NULL)
 
 #endif

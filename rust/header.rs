@@ -19,8 +19,8 @@ impl Header {
         assert_eq!(self.number(name), Some(number), "PERLOVASTA_{name}");
     }
 
-    /// The number of this constant, decimal or hexadecimal.
-    fn number(&self, name: &str) -> Option<u8> {
+    /// The number of this constant of an enum, decimal or hexadecimal; `None` where there is none.
+    pub fn number(&self, name: &str) -> Option<u8> {
         let (_, rest) = self.0.split_once(&format!(" PERLOVASTA_{name} = "))?;
         let digits = rest.split([',', ' ', '\n']).next()?;
         match digits.strip_prefix("0x") {

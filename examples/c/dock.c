@@ -11,7 +11,7 @@ static bus_script bus;
 static size_t happened; /* bytes of the script */
 static uint8_t refusal; /* of the virtual chip; a chip on a board refuses nothing */
 
-/* A board replaces access_chip and wait_for_chip, and nothing else.
+/* A board has an access_chip and a wait_for_chip of its own, and no virtual chip: chip, bus, happened and refusal go, with what main does with them.
  * access_chip makes the register access that the step asks for, and gives the value read: on a board, on the wires that lead to the chip. */
 static uint8_t access_chip(perlovasta_step step) {
     uint8_t reg = perlovasta_register(step), value = perlovasta_value(step);

@@ -1,5 +1,5 @@
-/* A virtual chip from C, for as long as several jobs: enabled by hand, a read that is done, arbitration lost, not ready until another's STOP. What
-   is stated is checked in this order; it ends with 0 if all is so. */
+/* A virtual chip from C, for as long as several jobs: enabled by hand, a read that is done, arbitration lost, not ready until another's STOP; jobs
+   that stop on the way, and a reset after each. What is stated is checked in this order; it ends with 0 if all is so. */
 #include <string.h>
 
 #include "check.h"
@@ -40,6 +40,25 @@ static void read_past_the_end(void) {
     CHECK(reply.refusal == PERLOVASTA_REFUSAL_BUFFER_END && reply.value == 0);
 }
 
+/* A job on this script is answered so, after as many pairs, and no other begins until the chip is reset and enabled. */
+static void stopped(const uint8_t *script, size_t script_len, uint8_t answer, uint64_t pairs) {
+    static const uint8_t done[] = {1, 0, 6, 0, 7, 0x11, 7, 0x5C, 4, 0};
+    CHECK(read_two(script, script_len) == answer && perlovasta_report_pairs(report) == pairs);
+    CHECK(read_two(done, sizeof done) == PERLOVASTA_NOT_READY);
+    CHECK(refusal_of_event(PERLOVASTA_EVENT_RESET_PIN, 0) == PERLOVASTA_ACCEPTED);
+    CHECK(refusal_of_write(PERLOVASTA_REGISTER_I2CCON, 0x40) == PERLOVASTA_ACCEPTED);
+    CHECK(read_two(done, sizeof done) == PERLOVASTA_DONE);
+}
+
+/* Answers 26 to 29: SCL held low; the script ends; own STOP before any data, a pair that is refused and not counted; the reset pin. */
+static void stop_and_go(void) {
+    static const uint8_t fault[] = {1, 0, 12, 0}, refused[] = {1, 0, 6, 0, 4, 0}, reset[] = {1, 0, 14, 0};
+    stopped(fault, sizeof fault, PERLOVASTA_FAULT, 2);
+    stopped(refused, 2, PERLOVASTA_UNFINISHED, 1);
+    stopped(refused, sizeof refused, PERLOVASTA_REFUSED, 2);
+    stopped(reset, sizeof reset, PERLOVASTA_RESET, 2);
+}
+
 int main(void) {
     static const uint8_t done[] = {1, 0, 6, 0, 7, 0x11, 7, 0x5C, 4, 0}, lost[] = {1, 0, 8, 0xA0};
     CHECK(perlovasta_chip_fresh(chip, sizeof chip - 1) == PERLOVASTA_REFUSAL_UNSOUND && chip[0] == 0);
@@ -59,5 +78,6 @@ int main(void) {
     CHECK(refusal_of_event(PERLOVASTA_EVENT_ANOTHERS_STOP, 0) == PERLOVASTA_ACCEPTED);
     CHECK(read_two(done, sizeof done) == PERLOVASTA_DONE && chip[4] == PERLOVASTA_REASON_NACK);
     read_past_the_end();
+    stop_and_go();
     return failures != 0;
 }

@@ -16,6 +16,20 @@ static void words(void) {
     CHECK(strcmp(perlovasta_words(PERLOVASTA_UNFINISHED), "the script ended first") == 0);
     CHECK(strcmp(perlovasta_port_words(PERLOVASTA_UNFINISHED), "given up") == 0);
     CHECK(strcmp(perlovasta_port_words(PERLOVASTA_FAULT), "bus fault") == 0);
+    CHECK(strstr(perlovasta_port_words(PERLOVASTA_MALFORMED), "no bytes to take") != NULL);
+}
+
+/* What is not over has no answer yet, and nothing that could be taken for done. What is no step has kind 0. */
+static void steps(void) {
+    for (unsigned kind = 0; kind < 256; kind++) {
+        perlovasta_step step = kind | 24u << 8 | 5u << 16;
+        int over = kind == PERLOVASTA_OVER;
+        CHECK(perlovasta_kind(step) == (kind <= PERLOVASTA_OVER ? kind : 0));
+        CHECK(perlovasta_answer(step) == (over ? PERLOVASTA_DATA_NACKED : PERLOVASTA_UNFINISHED));
+        CHECK(perlovasta_count(step) == (over ? 5 : 0));
+        CHECK((perlovasta_answer(kind) == PERLOVASTA_DONE) == over);
+    }
+    CHECK(perlovasta_register(0x00880201) == 2 && perlovasta_value(0x00880201) == 0x88);
 }
 
 static void reports_and_replies(void) {
@@ -42,6 +56,17 @@ static unsigned times_run(uint8_t answer, uint8_t n) {
     return times;
 }
 
+/* What is stored after a block that finds its bytes wrong: what the block has stored. */
+static uint8_t stored_by_block(void) {
+    static const perlovasta_read_result bytes = {0, 0, {0x11}};
+    uint8_t stored = 255;
+    PERLOVASTA_IF_DONE(read, stored, perlovasta_ended(bytes, PERLOVASTA_DONE, 1)) {
+        if (stored == PERLOVASTA_DONE && read.bytes[0] != 0)
+            stored = PERLOVASTA_FAULT;
+    }
+    return stored;
+}
+
 /* What is answered when the bytes of a read are asked for at this step, in a state that holds none. */
 static uint8_t taken_at(perlovasta_step step) {
     static uint8_t state[PERLOVASTA_STATE] = {0};
@@ -52,15 +77,20 @@ static uint8_t taken_at(perlovasta_step step) {
     return answer;
 }
 
+#define TEXT(number) #number
+#define VERSION(major, minor, patch) TEXT(major) "." TEXT(minor) "." TEXT(patch)
+
 int main(void) {
     words();
+    steps();
     reports_and_replies();
     CHECK(times_run(PERLOVASTA_DONE, 1) == 1 && times_run(PERLOVASTA_DONE, 68) == 1);
     CHECK(times_run(PERLOVASTA_ADDRESS_NACKED, 8) == 0 && times_run(PERLOVASTA_MALFORMED, 8) == 0);
+    CHECK(stored_by_block() == PERLOVASTA_FAULT);
     CHECK(taken_at(PERLOVASTA_WAIT) == PERLOVASTA_UNFINISHED);
     CHECK(taken_at(PERLOVASTA_OVER | 23u << 8) == PERLOVASTA_ADDRESS_NACKED);
     CHECK(taken_at(PERLOVASTA_OVER) == PERLOVASTA_MALFORMED && taken_at(PERLOVASTA_OVER | 69u << 16) == PERLOVASTA_MALFORMED);
     CHECK(taken_at(PERLOVASTA_OVER | 8u << 16) == PERLOVASTA_NOT_READY);
-    CHECK(PERLOVASTA_VERSION[0] == '0' + PERLOVASTA_VERSION_MAJOR && PERLOVASTA_VERSION[4] == '0' + PERLOVASTA_VERSION_PATCH);
+    CHECK(strcmp(PERLOVASTA_VERSION, VERSION(PERLOVASTA_VERSION_MAJOR, PERLOVASTA_VERSION_MINOR, PERLOVASTA_VERSION_PATCH)) == 0);
     return failures != 0;
 }

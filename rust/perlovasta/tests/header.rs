@@ -5,7 +5,8 @@ mod header;
 
 use header::Header;
 use perlovasta::{
-    Acknowledge, CHIP_LEN, ENTRY_LEN, Event, GROUP_LEN, OUT_LEN, REPORT_LEN, Reason, Refusal,
+    Acknowledge, CHIP_LEN, Called, ENTRY_LEN, Edge, Event, GROUP_LEN, OUT_LEN, REPORT_LEN, Reason,
+    Refusal, Turn, VirtualChip,
 };
 
 const MODEL: &str = "perlovasta.h";
@@ -68,6 +69,38 @@ fn reasons() {
     ];
     for (reason, name) in Reason::ALL.into_iter().zip(names) {
         header.assert_number(&format!("REASON_{name}"), reason.number());
+    }
+}
+
+/// A record with the header's number for the turn is in that turn.
+#[test]
+fn turns() {
+    let header = Header::of(MODEL);
+    let at_a0h = |edge| Turn::Host {
+        status: 0xA0,
+        edge: Some(edge),
+    };
+    for (turn, name) in [
+        (Turn::Off, "OFF"),
+        (at_a0h(Edge::Stop), "HOST"),
+        (Turn::Free, "FREE"),
+        (Turn::Busy, "BUSY"),
+        (Turn::Listen, "LISTEN"),
+        (Turn::Address, "ADDRESS"),
+        (Turn::Send, "SEND"),
+        (Turn::Receive, "RECEIVE"),
+        (Turn::SlaveReceive(Called::Own), "SLAVE_RECEIVE"),
+        (Turn::SlaveSend, "SLAVE_SEND"),
+        (Turn::Stopping, "STOPPING"),
+        (Turn::Restarting, "RESTARTING"),
+        (at_a0h(Edge::Start), "HOST_AFTER_START"),
+        (Turn::SlaveReceive(Called::General), "SLAVE_RECEIVE_GENERAL"),
+    ] {
+        let mut bytes = *VirtualChip::new().as_bytes();
+        bytes[2] = header.number(&format!("TURN_{name}")).expect(name);
+        bytes[3] = 0xA0;
+        let chip = VirtualChip::from_bytes(&bytes).expect(name);
+        assert_eq!(chip.turn(), turn, "PERLOVASTA_TURN_{name}");
     }
 }
 
