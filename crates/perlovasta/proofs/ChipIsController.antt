@@ -58,11 +58,11 @@ left-back m r there places leaves =
     split P _ [] _ (λ e. (there, sym (leaves e))) (λ _. subst P (sym (if-false _ _ _ (le-ltb (length m) 88 long))) (read-back (r .next) m places long))
 
 -- what one call gives, and the record in the bytes after it
-one : (report : ℕ) (m : List ℕ) (x : Asked) → 12 ≤ report → isRecord m ≡ true →
+pub one-call : (report : ℕ) (m : List ℕ) (x : Asked) → 12 ≤ report → isRecord m ≡ true →
     (callGives report m x ≡ ruleGives (recordOf m) x) × Back (recordAfter (recordOf m) x) (bytesAfter report m x)
 unfolding callGives ruleGives bytesAfter recordAfter jobCallOn chipAfterJob
-one report m (access g) room there = let c = called m g there in (ap replied (c .0), c .1)
-one report m (job j) room there =
+one-call report m (access g) room there = let c = called m g there in (ap replied (c .0), c .1)
+one-call report m (job j) room there =
     let c = recordOf m in
     let enough = le-ltb report 12 room in
     let r = requestReport c (j .kind) (j .address) (j .n) (j .payload) (j .destinationLength) (j .outLength) (j .script) in
@@ -76,7 +76,7 @@ pub chip-is-controller : ChipIsController
 unfolding callsGive bytesLeft rulesGive recordLeft
 chip-is-controller report m [] room there = (refl, refl)
 chip-is-controller report m (x ∷ xs) room there =
-    let first = one report m x room there in
+    let first = one-call report m x room there in
     let next = bytesAfter report m x in
     let rest = chip-is-controller report next xs room (first .1 .0) in (
       ap (λ (g : JobCall). g ∷ callsGive report next xs) (first .0)

@@ -1,0 +1,2 @@
+-- Demand 3 of the library's calls.
+pub mod OldBytesInCalls
