@@ -15,11 +15,12 @@ pub fn link(library: &str) {
         println!("cargo::error={refusal}");
         return;
     }
-    let folder = folder(env::var_os(VARIABLE).as_deref().map(Path::new));
+    let named = env::var_os(VARIABLE);
+    let folder = folder(named.as_deref().map(Path::new));
     let archive = folder.join(format!("lib{library}.a"));
     println!("cargo::rerun-if-changed={}", archive.display());
     if !archive.is_file() {
-        let remedy = format!("run `rt staticlib {library}`, or name its folder in {VARIABLE}");
+        let remedy = remedy(library, named.is_some_and(|name| !name.is_empty()));
         println!("cargo::error={} is not there: {remedy}", archive.display());
         return;
     }
@@ -41,10 +42,20 @@ pub fn refusal(arch: &str, width: &str, os: &str) -> Option<String> {
     ))
 }
 
+/// What to do where the library is not there; `named` says whether the variable names a folder.
+pub fn remedy(library: &str, named: bool) -> String {
+    if named {
+        return format!("name the folder of lib{library}.a in {VARIABLE}, or unset it");
+    }
+    format!("run `rt staticlib {library}`, or name its folder in {VARIABLE}")
+}
+
 /// The library's folder. A relative one is taken from the repository's root, and an empty name
 /// counts for none.
 pub fn folder(named: Option<&Path>) -> PathBuf {
     let root = Path::new(env!("CARGO_MANIFEST_DIR")).join("../..");
+    // A path without `..` is easier to read; where it can't be had, the other is right too.
+    let root = root.canonicalize().unwrap_or(root);
     let named = named.filter(|folder| !folder.as_os_str().is_empty());
     root.join(named.unwrap_or(Path::new(DEFAULT)))
 }

@@ -1,6 +1,6 @@
 //! The port: the driver of one chip, and what it remembers.
 
-use crate::{Address, Answer, Bytes, PLACES, STATE_LEN, Setting, Step, sys};
+use crate::{Address, Answer, Bytes, PLACES, STATE_LEN, Setting, Step, TakeError, sys};
 use core::fmt;
 
 /// Kinds of a job.
@@ -17,8 +17,9 @@ const TOO_MANY: u8 = u8::MAX;
 /// [`start_write`](Port::start_write) gives the [`Step`] that the board has to do, and
 /// [`next`](Port::next) the one after it, until it is over; [`take`](Port::take) gives the bytes.
 ///
-/// A new one answers [`Answer::NotReady`] to every job, until a recovery was run to its end. One is
-/// for one chip, and there is no copy of it: an old one would not know what the chip is doing.
+/// A new one answers [`Answer::NotReady`] to every well-formed job, until a recovery was run to its
+/// end. One is for one chip, and there is no copy of it: an old one would not know what the chip is
+/// doing.
 pub struct Port {
     state: [u8; STATE_LEN],
     /// How many bytes the last read is of.
@@ -76,23 +77,25 @@ impl Port {
     }
 
     /// The board's clock ran out. It is over with [`Answer::Unfinished`], whatever was under way,
-    /// and no job begins until a recovery was run to its end.
+    /// and no job begins until a recovery was run to its end. Bytes that were not taken before
+    /// can't be taken any more.
     pub fn give_up(&mut self) -> Step {
         step(sys::give_up(&mut self.state))
     }
 
-    /// The bytes of a finished read. They are given once and are gone from the port then: a second
-    /// time it is [`Answer::Malformed`].
+    /// The bytes of a finished read. They are given once and are gone from the port then. After
+    /// the next start, recovery or give-up bytes that were not taken can't be taken any more.
     ///
     /// # Errors
     ///
-    /// If it is not over, [`Answer::Unfinished`]; if it was no read, [`Answer::Malformed`]; or if
-    /// the read was not done, its answer.
-    pub fn take(&mut self) -> Result<Bytes, Answer> {
+    /// [`Answer::Unfinished`] if it is not over; else the answer, if that is not
+    /// [`Answer::Done`]; else [`Answer::Malformed`], since it was no read or the bytes were taken
+    /// before.
+    pub fn take(&mut self) -> Result<Bytes, TakeError> {
         let mut bytes = [0; PLACES];
         match answer(sys::take(&mut self.state, &mut bytes)) {
             Answer::Done => Ok(Bytes::first(bytes, usize::from(self.n))),
-            why_not => Err(why_not),
+            why_not => Err(TakeError::new(why_not)),
         }
     }
 }
@@ -103,7 +106,8 @@ impl Default for Port {
     }
 }
 
-/// Says nothing of the state, which can hold what a badge said.
+/// Says nothing of the state: it can hold what a badge said and was not handed up yet. Bytes that
+/// were handed up show themselves.
 impl fmt::Debug for Port {
     fn fmt(&self, f: &mut fmt::Formatter<'_>) -> fmt::Result {
         f.debug_struct("Port").finish_non_exhaustive()

@@ -1,6 +1,6 @@
 //! Why a job or a recovery is not done.
 
-use crate::{Answer, Argument};
+use crate::{Answer, Argument, port_words};
 use core::error::Error;
 use core::fmt;
 
@@ -37,14 +37,18 @@ impl<E: fmt::Display> fmt::Display for PortError<E> {
     fn fmt(&self, f: &mut fmt::Formatter<'_>) -> fmt::Result {
         match self {
             PortError::Malformed(argument) => fmt::Display::fmt(argument, f),
-            PortError::Answered {
-                answer: Answer::Unfinished,
-                ..
-            } => f.write_str("given up: the time ran out"),
-            PortError::Answered { answer, .. } => fmt::Display::fmt(answer, f),
+            PortError::Answered { answer, .. } => f.write_str(port_words(*answer)),
             PortError::Board(error) => write!(f, "the board failed: {error}"),
         }
     }
 }
 
-impl<E: fmt::Debug + fmt::Display> Error for PortError<E> {}
+impl<E: Error + 'static> Error for PortError<E> {
+    /// The board's error, which the words have in them too.
+    fn source(&self) -> Option<&(dyn Error + 'static)> {
+        match self {
+            PortError::Board(error) => Some(error),
+            _ => None,
+        }
+    }
+}

@@ -4,12 +4,14 @@ use crate::{Address, Answer, Argument, Board, Bytes, Clock, Port, PortError, Set
 
 impl Port {
     /// Brings the chip back, whatever it was doing: a software reset, the settings, 40h to I2CCON,
-    /// and a pause. The writes were made if it is done; nothing is read back.
+    /// and a pause. The writes were made if it is done; nothing is read back. Set the clock
+    /// before each job, recovery included.
     ///
     /// # Errors
     ///
-    /// If there are more than [six](Setting::MOST) settings, or the board failed.
-    pub fn recover<B: Board>(
+    /// If there are more than [six](Setting::MOST) settings, the board failed, or its clock ran out
+    /// in the pause.
+    pub fn recover<B: Board + ?Sized>(
         &mut self,
         board: &mut B,
         settings: &[Setting],
@@ -23,7 +25,7 @@ impl Port {
     /// # Errors
     ///
     /// If the job is not done. There are no bytes then.
-    pub fn read<B: Board>(
+    pub fn read<B: Board + ?Sized>(
         &mut self,
         board: &mut B,
         address: Address,
@@ -31,7 +33,7 @@ impl Port {
     ) -> Result<Bytes, PortError<B::Error>> {
         let first = self.start_read(address, n);
         self.run(board, first, Argument::Count(n))?;
-        self.take().map_err(|answer| not_done(answer, 0))
+        self.take().map_err(|error| not_done(error.answer(), 0))
     }
 
     /// Writes these bytes, 1 to 68, to this address.
@@ -39,7 +41,7 @@ impl Port {
     /// # Errors
     ///
     /// If the job is not done.
-    pub fn write<B: Board>(
+    pub fn write<B: Board + ?Sized>(
         &mut self,
         board: &mut B,
         address: Address,
@@ -51,7 +53,7 @@ impl Port {
 
     /// Does what each step says until it is over. `doubtful` is what is wrong if it is malformed:
     /// nothing else can be.
-    fn run<B: Board>(
+    fn run<B: Board + ?Sized>(
         &mut self,
         board: &mut B,
         first: Step,
@@ -67,7 +69,11 @@ impl Port {
     }
 
     /// The board does this step, and the port gives the next.
-    fn after<B: Board>(&mut self, board: &mut B, step: Step) -> Result<Step, PortError<B::Error>> {
+    fn after<B: Board + ?Sized>(
+        &mut self,
+        board: &mut B,
+        step: Step,
+    ) -> Result<Step, PortError<B::Error>> {
         match perform(board, step) {
             Ok(Some(value)) => Ok(self.next(value)),
             Ok(None) => Ok(self.give_up()),
@@ -80,7 +86,7 @@ impl Port {
 }
 
 /// The board does this step: the value for the next one, or none if the clock ran out.
-fn perform<B: Board>(board: &mut B, step: Step) -> Result<Option<u8>, B::Error> {
+fn perform<B: Board + ?Sized>(board: &mut B, step: Step) -> Result<Option<u8>, B::Error> {
     let wait = match step {
         Step::Read { register } => return board.read(register).map(Some),
         Step::Write { register, value } => return board.write(register, value).map(|()| Some(0)),

@@ -24,7 +24,7 @@ pub enum Step {
     Pause,
     /// Nothing any more.
     Over {
-        /// The answer.
+        /// The answer; [`port_words`](crate::port_words) has it in words.
         answer: Answer,
         /// `n` for a job that is done; for [`Answer::DataNacked`] the data bytes moved, with the
         /// one not acknowledged; else 0.

@@ -1,6 +1,7 @@
 //! The port by hand: every step of a read, refusals, giving up, and recovery.
 
-use perlovasta_dock::{Address, Answer, Port, Register, Setting, Step};
+use perlovasta_dock::{Address, Answer, Bytes, Port, Register, Setting, Step};
+use std::error::Error;
 
 const WAIT: Step = Step::Wait;
 const PAUSE: Step = Step::Pause;
@@ -52,6 +53,12 @@ fn steps(port: &mut Port, first: Step, values: &[u8]) -> Vec<Step> {
         };
         steps.push(port.next(value));
     }
+}
+
+/// Why the port has no bytes to take.
+#[track_caller]
+fn no_bytes(port: &mut Port) -> Answer {
+    port.take().expect_err("there are no bytes").answer()
 }
 
 /// A port that was recovered.
@@ -144,7 +151,7 @@ fn every_step_of_a_write() {
         &[read(3), over(Answer::DataNacked, 2)],
     ];
     assert_eq!(steps(&mut port, first, &values), expected.concat());
-    assert_eq!(port.take(), Err(Answer::DataNacked));
+    assert_eq!(no_bytes(&mut port), Answer::DataNacked);
 }
 
 #[test]
@@ -162,7 +169,7 @@ fn every_step_of_a_recovery() {
         &[write(3, 0x40), PAUSE, DONE],
     ];
     assert_eq!(steps(&mut port, first, &[]), expected.concat());
-    assert_eq!(port.take(), Err(Answer::Malformed));
+    assert_eq!(no_bytes(&mut port), Answer::Malformed);
 }
 
 #[test]
@@ -170,7 +177,7 @@ fn bytes_are_given_once() {
     let mut port = with_three_bytes();
     let badge = port.take().expect("it is done");
     assert_eq!(*badge, [0x5C, 0x5D, 0x5E]);
-    assert_eq!(port.take(), Err(Answer::Malformed));
+    assert_eq!(no_bytes(&mut port), Answer::Malformed);
     assert_eq!(port.next(0), MALFORMED);
     // The port is ready as before.
     let first = port.start_read(device(), 3);
@@ -194,10 +201,10 @@ fn no_old_bytes_after_a_wrong_job() {
     for n in [0, 69, 255, 256, 257, 256 + 68, 70_000] {
         let mut port = with_three_bytes();
         assert_eq!(port.start_read(device(), n), MALFORMED);
-        assert_eq!(port.take(), Err(Answer::Malformed));
+        assert_eq!(no_bytes(&mut port), Answer::Malformed);
         // The port is ready as before.
         assert_eq!(port.start_read(device(), 3), read(3));
-        assert_eq!(port.take(), Err(Answer::Unfinished));
+        assert_eq!(no_bytes(&mut port), Answer::Unfinished);
     }
 }
 
@@ -210,7 +217,7 @@ fn no_old_bytes_where_the_chip_is_not_ready() {
         let steps = steps(&mut port, first, values);
         assert!(steps.iter().all(|step| !matches!(step, Step::Write { .. })));
         assert_eq!(steps.last(), Some(&NOT_READY));
-        assert_eq!(port.take(), Err(Answer::NotReady));
+        assert_eq!(no_bytes(&mut port), Answer::NotReady);
     }
 }
 
@@ -254,12 +261,12 @@ fn every_setting() {
 #[test]
 fn a_new_port_wants_a_recovery() {
     let mut port = Port::new();
-    assert_eq!(port.take(), Err(Answer::NotReady));
+    assert_eq!(no_bytes(&mut port), Answer::NotReady);
     assert_eq!(port.next(0), NOT_READY);
     assert_eq!(port.start_read(device(), 3), NOT_READY);
     assert_eq!(port.start_write(device(), &[1]), NOT_READY);
     assert_eq!(port.start_read(device(), 0), MALFORMED);
-    assert_eq!(port.take(), Err(Answer::Malformed));
+    assert_eq!(no_bytes(&mut port), Answer::Malformed);
 }
 
 #[test]
@@ -270,10 +277,10 @@ fn given_up_at_every_step() {
         let met = steps(&mut port, first, &READ[..values]);
         assert_eq!(met.last(), Some(&read_at(values)));
         assert_eq!(port.give_up(), GIVEN_UP);
-        assert_eq!(port.take(), Err(Answer::Unfinished));
+        assert_eq!(no_bytes(&mut port), Answer::Unfinished);
         assert_eq!(port.next(0x40), GIVEN_UP);
         assert_eq!(port.start_read(device(), 3), NOT_READY);
-        assert_eq!(port.take(), Err(Answer::NotReady));
+        assert_eq!(no_bytes(&mut port), Answer::NotReady);
 
         let first = port.start_recover(&[]);
         assert_eq!(steps(&mut port, first, &[]).last(), Some(&DONE));
@@ -300,19 +307,38 @@ fn a_job_while_one_is_under_way() {
     assert_eq!(port.start_read(device(), 3), read(3));
     assert_eq!(port.start_read(device(), 3), NOT_READY);
     assert_eq!(port.start_read(device(), 3), NOT_READY);
-    assert_eq!(port.take(), Err(Answer::NotReady));
+    assert_eq!(no_bytes(&mut port), Answer::NotReady);
 }
 
 #[test]
 fn a_recovery_that_is_not_run_to_its_end() {
     let mut port = with_three_bytes();
     assert_eq!(port.start_recover(&[]), write(0, 0x05));
-    assert_eq!(port.take(), Err(Answer::Unfinished));
+    assert_eq!(no_bytes(&mut port), Answer::Unfinished);
     assert_eq!(port.next(0), write(2, 0xA5));
     assert_eq!(port.start_read(device(), 3), NOT_READY);
     assert_eq!(port.start_recover(&[]), write(0, 0x05));
     assert_eq!(port.give_up(), GIVEN_UP);
     assert_eq!(port.start_read(device(), 3), NOT_READY);
+}
+
+/// As `?` in a function whose errors are of any type.
+fn taken(port: &mut Port) -> Result<Bytes, Box<dyn Error>> {
+    Ok(port.take()?)
+}
+
+#[test]
+fn why_nothing_is_taken_is_told() {
+    let mut port = with_three_bytes();
+    let badge = taken(&mut port).expect("it is done");
+    assert_eq!(badge, [0x5C, 0x5D, 0x5E]);
+    let twice = "no bytes to take: the job was wrong or no read, or they were taken before";
+    assert_eq!(taken(&mut port).unwrap_err().to_string(), twice);
+    assert_eq!(port.start_read(device(), 3), read(3));
+    let amid = "no bytes to take: it is not over, or was given up";
+    assert_eq!(taken(&mut port).unwrap_err().to_string(), amid);
+    let fresh = "a recovery comes first, or the chip is not ready";
+    assert_eq!(taken(&mut Port::new()).unwrap_err().to_string(), fresh);
 }
 
 #[test]

@@ -9,6 +9,7 @@ use perlovasta_dock::{
 };
 use scripted_chip::ScriptedChip;
 use std::convert::Infallible;
+use std::error::Error;
 
 const ACKED: Event = Event::ByteOut(Acknowledge::Ack);
 const NACKED: Event = Event::ByteOut(Acknowledge::Nack);
@@ -24,9 +25,14 @@ fn read_script(bytes: &[u8]) -> Vec<Event> {
     events.chain([Event::OwnStop]).collect()
 }
 
+/// A board on which these events happen.
+fn scripted(script: &[Event]) -> ScriptedChip<impl Iterator<Item = [u8; 2]>> {
+    ScriptedChip::new(script.iter().map(|event| event.pair()))
+}
+
 /// A port that was recovered, and its board.
-fn recovered(script: &[Event]) -> (Port, ScriptedChip<'_>) {
-    let (mut port, mut board) = (Port::new(), ScriptedChip::new(script));
+fn recovered(script: &[Event]) -> (Port, ScriptedChip<impl Iterator<Item = [u8; 2]>>) {
+    let (mut port, mut board) = (Port::new(), scripted(script));
     assert_eq!(port.recover(&mut board, &[]), Ok(()));
     (port, board)
 }
@@ -40,7 +46,8 @@ fn reads_of_every_length() {
         let bytes = port.read(&mut board, device(), n);
         assert_eq!(bytes.as_deref(), Ok(&all[..n]));
         // They were handed out.
-        assert_eq!(port.take(), Err(Answer::Malformed));
+        let error = port.take().unwrap_err();
+        assert_eq!(error.answer(), Answer::Malformed);
     }
 }
 
@@ -87,7 +94,7 @@ fn which_argument_is_wrong() {
 
 #[test]
 fn settings_reach_the_chip() {
-    let (mut port, mut board) = (Port::new(), ScriptedChip::new(&[]));
+    let (mut port, mut board) = (Port::new(), scripted(&[]));
     let settings = [Setting::BusMode(0x01), Setting::OwnAddress(0x22)];
     assert_eq!(port.recover(&mut board, &settings), Ok(()));
     assert_eq!(board.read(Register::AtPointer), Ok(0x22));
@@ -95,9 +102,12 @@ fn settings_reach_the_chip() {
 
 #[test]
 fn a_new_port_wants_a_recovery() {
-    let mut board = ScriptedChip::new(&[]);
+    let mut board = scripted(&[]);
     let error = Port::new().read(&mut board, device(), 1).unwrap_err();
     assert_eq!(error.answer(), Answer::NotReady);
+    let words = "a recovery comes first, or the chip is not ready";
+    assert_eq!(error.to_string(), words);
+    assert!(error.source().is_none());
 }
 
 #[test]
@@ -123,8 +133,50 @@ fn the_board_fails() {
     assert_eq!(error.answer(), Answer::Unfinished);
     let words = "the board failed: the event is not expected now";
     assert_eq!(error.to_string(), words);
+    let source = error.source().and_then(|source| source.downcast_ref());
+    assert_eq!(source, Some(&Refusal::Unexpected));
     // The job was given up.
     let error = port.read(&mut board, device(), 1).unwrap_err();
+    assert_eq!(error.answer(), Answer::NotReady);
+}
+
+/// A port runs on a board that is lent, and on one whose type is not known.
+#[test]
+fn boards_behind_a_reference() {
+    let script = [read_script(&[0x5C]), read_script(&[0x5D])].concat();
+    let (mut port, mut board) = recovered(&script);
+    let bytes = port.read(&mut &mut board, device(), 1).expect("it is done");
+    assert_eq!(bytes, [0x5C]);
+    let any: &mut dyn Board<Error = Refusal> = &mut board;
+    let bytes = port.read(any, device(), 1).expect("it is done");
+    assert_eq!(bytes, [0x5D]);
+}
+
+/// A board whose clock ran out before it was asked.
+struct LateBoard;
+
+impl Board for LateBoard {
+    type Error = Infallible;
+
+    fn read(&mut self, _: Register) -> Result<u8, Infallible> {
+        Ok(0x40)
+    }
+
+    fn write(&mut self, _: Register, _: u8) -> Result<(), Infallible> {
+        Ok(())
+    }
+
+    fn wait(&mut self, _: Wait) -> Result<Clock, Infallible> {
+        Ok(Clock::RanOut)
+    }
+}
+
+#[test]
+fn the_clock_runs_out_in_a_recovery() {
+    let mut port = Port::new();
+    let error = port.recover(&mut LateBoard, &[]).unwrap_err();
+    assert_eq!(error.answer(), Answer::Unfinished);
+    let error = port.read(&mut LateBoard, device(), 1).unwrap_err();
     assert_eq!(error.answer(), Answer::NotReady);
 }
 

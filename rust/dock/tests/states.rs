@@ -1,6 +1,10 @@
 //! The functions of `sys`: states that are too short or too long, and that a port is one of 148.
 
-use perlovasta_dock::{Address, Answer, Port, Register, STATE_LEN, Setting, Step, sys};
+#[path = "../../random_bytes.rs"]
+mod random_bytes;
+
+use perlovasta_dock::{Address, Answer, Port, Register, STATE_LEN, Setting, Step, TakeError, sys};
+use random_bytes::RandomBytes;
 
 /// Over with this answer, and count 0.
 fn over(answer: u8) -> Option<Step> {
@@ -60,55 +64,44 @@ fn wrong_kinds_data_and_settings() {
     }
 }
 
-/// Random bytes from a seed.
-struct Bytes(u64);
-
-impl Bytes {
-    fn next(&mut self) -> u8 {
-        self.0 = self.0.wrapping_mul(6_364_136_223_846_793_005);
-        self.0 = self.0.wrapping_add(1_442_695_040_888_963_407);
-        (self.0 >> 56) as u8
+/// A value for the next step after this one: often what a register has in a job.
+fn value(random: &mut RandomBytes, after: Step) -> u8 {
+    let often: &[u8] = match after {
+        Step::Read {
+            register: Register::Status,
+        } => &[0xF8, 0x08, 0x18, 0x28, 0x40, 0x58],
+        Step::Read {
+            register: Register::Control,
+        } => &[0x40, 0x48, 0x49],
+        _ => &[],
+    };
+    if often.is_empty() || random.byte() < 4 {
+        return random.byte();
     }
-
-    /// A value for the next step after this one: often what a register has in a job.
-    fn value(&mut self, after: Step) -> u8 {
-        let often: &[u8] = match after {
-            Step::Read {
-                register: Register::Status,
-            } => &[0xF8, 0x08, 0x18, 0x28, 0x40, 0x58],
-            Step::Read {
-                register: Register::Control,
-            } => &[0x40, 0x48, 0x49],
-            _ => &[],
-        };
-        if often.is_empty() || self.next() < 4 {
-            return self.next();
-        }
-        often[usize::from(self.next()) % often.len()]
-    }
+    random.one_of(often)
 }
 
 /// A random setting.
-fn setting(bytes: &mut Bytes) -> Setting {
-    let settings = [
+fn setting(random: &mut RandomBytes) -> Setting {
+    let of = random.one_of(&[
         Setting::Count,
         Setting::OwnAddress,
         Setting::ClockLow,
         Setting::ClockHigh,
         Setting::TimeOut,
         Setting::BusMode,
-    ];
-    settings[usize::from(bytes.next()) % settings.len()](bytes.next())
+    ]);
+    of(random.byte())
 }
 
 /// One random call of a port that is at this step, and the same of a state.
-fn call(bytes: &mut Bytes, at: Step, port: &mut Port, state: &mut [u8]) -> (Step, u32) {
-    let (address, n) = (8 + bytes.next() % 112, bytes.next() % 80);
+fn call(random: &mut RandomBytes, at: Step, port: &mut Port, state: &mut [u8]) -> (Step, u32) {
+    let (address, n) = (8 + random.byte() % 112, random.byte() % 80);
     let device = Address::new(address).expect("a device's address");
-    match (bytes.next(), at) {
+    match (random.byte(), at) {
         (0, _) => (port.give_up(), sys::give_up(state)),
         (1, _) | (..64, Step::Over { .. }) => {
-            let settings: Vec<Setting> = (0..n % 8).map(|_| setting(bytes)).collect();
+            let settings: Vec<Setting> = (0..n % 8).map(|_| setting(random)).collect();
             let flat: Vec<u8> = settings.iter().flat_map(|setting| setting.pair()).collect();
             (port.start_recover(&settings), sys::recover(state, &flat))
         }
@@ -117,12 +110,12 @@ fn call(bytes: &mut Bytes, at: Step, port: &mut Port, state: &mut [u8]) -> (Step
             (step, sys::start(state, 1, address, n, &[]))
         }
         (3, _) | (.., Step::Over { .. }) => {
-            let data = vec![bytes.next(); n.into()];
+            let data = vec![random.byte(); n.into()];
             let step = port.start_write(device, &data);
             (step, sys::start(state, 0, address, n, &data))
         }
         _ => {
-            let value = bytes.value(at);
+            let value = value(random, at);
             (port.next(value), sys::next(state, value))
         }
     }
@@ -132,14 +125,15 @@ fn call(bytes: &mut Bytes, at: Step, port: &mut Port, state: &mut [u8]) -> (Step
 fn take(port: &mut Port, state: &mut [u8], n: u8) -> bool {
     let mut bytes = [0xEE; 68];
     let why_not = sys::take(state, &mut bytes);
-    let taken = port.take();
+    let taken = port.take().map_err(|error| error.answer().number());
     if why_not != 0 {
-        assert_eq!(taken.map_err(Answer::number), Err(why_not));
+        assert_eq!(taken, Err(why_not));
         return false;
     }
     assert_eq!(taken.as_deref(), Ok(&bytes[..n.into()]));
     assert!(bytes[n.into()..].iter().all(|&byte| byte == 0xEE));
-    assert_eq!(port.take(), Err(Answer::Malformed));
+    let again = port.take().map_err(TakeError::answer);
+    assert_eq!(again, Err(Answer::Malformed));
     assert_eq!(sys::take(state, &mut bytes), 21);
     assert_eq!(Step::from_number(sys::next(state, 0)), over(21));
     true
@@ -147,12 +141,12 @@ fn take(port: &mut Port, state: &mut [u8], n: u8) -> bool {
 
 #[test]
 fn a_port_is_a_state() {
-    let mut bytes = Bytes(9665);
+    let mut random = RandomBytes(9665);
     let (mut port, mut state) = (Port::new(), [0; STATE_LEN]);
     let mut step = port.next(0);
     let mut taken = 0;
     for _ in 0..200_000 {
-        let (next, number) = call(&mut bytes, step, &mut port, &mut state);
+        let (next, number) = call(&mut random, step, &mut port, &mut state);
         assert_eq!(Some(next), Step::from_number(number));
         let n = match next {
             Step::Over { count, .. } => count,

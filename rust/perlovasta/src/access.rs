@@ -40,9 +40,7 @@ impl TryFrom<[u8; GROUP_LEN]> for Access {
         match kind {
             0 => register.map(Access::Read),
             1 => register.map(|register| Access::Write(register, value)),
-            2 => Event::try_from([number, value])
-                .map(Access::Event)
-                .map_err(AccessError::Refused),
+            2 => Ok(Access::Event(Event::try_from([number, value])?)),
             _ => Err(AccessError::Kind(kind)),
         }
     }
@@ -66,12 +64,27 @@ impl fmt::Display for AccessError {
     }
 }
 
-impl Error for AccessError {}
+impl From<Refusal> for AccessError {
+    fn from(refusal: Refusal) -> Self {
+        AccessError::Refused(refusal)
+    }
+}
+
+impl Error for AccessError {
+    fn source(&self) -> Option<&(dyn Error + 'static)> {
+        match self {
+            AccessError::Kind(_) => None,
+            AccessError::Refused(refusal) => Some(refusal),
+        }
+    }
+}
 
 #[cfg(test)]
 mod tests {
     use super::{Access, AccessError};
     use crate::Refusal;
+    use alloc::string::ToString;
+    use core::error::Error;
 
     #[test]
     fn groups_go_both_ways() {
@@ -99,5 +112,8 @@ mod tests {
             refused([2, 6, 2]),
             AccessError::Refused(Refusal::BadArgument)
         );
+        assert!(refused([3, 0, 0]).source().is_none());
+        let source = refused([1, 4, 0]).source().map(ToString::to_string);
+        assert_eq!(source, Some(Refusal::OutOfRange.to_string()));
     }
 }

@@ -23,6 +23,9 @@ use core::fmt;
 /// assert_eq!(chip.event(Event::ByteIn(0x5C)), Err(Refusal::Unexpected));
 /// # Ok::<(), Refusal>(())
 /// ```
+///
+/// Two chips are equal if all their [bytes](VirtualChip::as_bytes) are, those of the buffer that
+/// are of no more use too.
 #[derive(Clone, PartialEq, Eq)]
 pub struct VirtualChip {
     record: [u8; CHIP_LEN],
@@ -103,7 +106,8 @@ impl VirtualChip {
     ///
     /// # Errors
     ///
-    /// If the job is not done. There are no bytes then.
+    /// If the job is not done. There are no bytes then. The chip has to be enabled before, by 40h
+    /// to [`Register::Control`]: a fresh one is [not ready](crate::Answer::NotReady).
     pub fn run_read(
         &mut self,
         address: Address,
@@ -119,7 +123,8 @@ impl VirtualChip {
     ///
     /// # Errors
     ///
-    /// If the job is not done.
+    /// If the job is not done. The chip has to be enabled before, as for
+    /// [`run_read`](VirtualChip::run_read).
     pub fn run_write(
         &mut self,
         address: Address,
@@ -147,7 +152,8 @@ impl Default for VirtualChip {
     }
 }
 
-/// Says nothing of the buffer, which can hold what a badge said.
+/// Says nothing of the buffer: it can hold what a badge said and was not handed up. Bytes that were
+/// handed up show themselves.
 impl fmt::Debug for VirtualChip {
     fn fmt(&self, f: &mut fmt::Formatter<'_>) -> fmt::Result {
         f.debug_struct("VirtualChip")

@@ -135,6 +135,38 @@ impl TryFrom<[u8; 2]> for Event {
     }
 }
 
+impl fmt::Display for Acknowledge {
+    fn fmt(&self, f: &mut fmt::Formatter<'_>) -> fmt::Result {
+        f.write_str(match self {
+            Acknowledge::Ack => "ACK",
+            Acknowledge::Nack => "NACK",
+        })
+    }
+}
+
+impl fmt::Display for Event {
+    fn fmt(&self, f: &mut fmt::Formatter<'_>) -> fmt::Result {
+        f.write_str(match self {
+            Event::OwnStart => "own START",
+            Event::AnothersStart => "another's START",
+            Event::AnothersStop => "another's STOP",
+            Event::OwnStop => "own STOP",
+            Event::AddressByte(byte) => return write!(f, "address byte {byte:02X}h"),
+            Event::ByteOut(acknowledge) => return write!(f, "byte out, {acknowledge}"),
+            Event::ByteIn(byte) => return write!(f, "byte in {byte:02X}h"),
+            Event::LostInAddress(byte) => {
+                return write!(f, "arbitration lost in the address byte to {byte:02X}h");
+            }
+            Event::LostInData => "arbitration lost in a data byte",
+            Event::IllegalPlace => "START or STOP at an illegal place",
+            Event::SdaHeld => "SDA held after nine clocks",
+            Event::SclLow => "SCL low past the time-out",
+            Event::Idle => "idle past the time-out",
+            Event::ResetPin => "reset pin",
+        })
+    }
+}
+
 /// Why bytes are no script.
 #[derive(Clone, Copy, Debug, PartialEq, Eq, Hash)]
 pub enum ScriptError {
@@ -158,12 +190,21 @@ impl fmt::Display for ScriptError {
     }
 }
 
-impl Error for ScriptError {}
+impl Error for ScriptError {
+    fn source(&self) -> Option<&(dyn Error + 'static)> {
+        match self {
+            ScriptError::Odd => None,
+            ScriptError::Pair { refusal, .. } => Some(refusal),
+        }
+    }
+}
 
 #[cfg(test)]
 mod tests {
-    use super::{Event, ScriptError};
+    use super::{Acknowledge, Event, ScriptError};
     use crate::{Refusal, VirtualChip};
+    use alloc::string::ToString;
+    use core::error::Error;
 
     /// The pair is taken exactly if a controller does not refuse it with 1 or 2.
     #[test]
@@ -181,9 +222,21 @@ mod tests {
     }
 
     #[test]
+    fn words() {
+        assert_eq!(Event::OwnStart.to_string(), "own START");
+        assert_eq!(Event::ByteIn(0x5C).to_string(), "byte in 5Ch");
+        let nacked = Event::ByteOut(Acknowledge::Nack);
+        assert_eq!(nacked.to_string(), "byte out, NACK");
+        let lost = Event::LostInAddress(9).to_string();
+        assert_eq!(lost, "arbitration lost in the address byte to 09h");
+    }
+
+    #[test]
     fn the_wrong_pair_is_named() {
         let refusal = Refusal::BadArgument;
         let wrong = ScriptError::Pair { index: 1, refusal };
         assert_eq!(Event::script(&[1, 0, 6, 2, 15, 0]), Err(wrong));
+        let source = wrong.source().and_then(|source| source.downcast_ref());
+        assert_eq!(source, Some(&refusal));
     }
 }

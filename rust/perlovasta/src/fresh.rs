@@ -3,6 +3,7 @@
 use crate::job::{Done, Job};
 use crate::{Address, Bytes, Event, JobError, OUT_LEN};
 use core::ops::Deref;
+use core::slice::Iter;
 
 /// Reads `n` bytes, 1 to 68, from this address, on a fresh controller that is enabled, while the
 /// script is what the bus does.
@@ -25,14 +26,14 @@ pub fn write(address: Address, data: &[u8], script: &[Event]) -> Result<Written,
 }
 
 /// A read that is done. It is used as the slice of the bytes that were read.
-#[derive(Clone, Debug, PartialEq, Eq)]
+#[derive(Clone, Debug, PartialEq, Eq, Hash)]
 pub struct Read {
     bytes: Bytes,
     written: Written,
 }
 
 /// A write that is done.
-#[derive(Clone, Debug, PartialEq, Eq)]
+#[derive(Clone, Debug, PartialEq, Eq, Hash)]
 pub struct Written {
     sent: Bytes<OUT_LEN>,
     events: usize,
@@ -63,6 +64,39 @@ impl Deref for Read {
 
     fn deref(&self) -> &[u8] {
         &self.bytes
+    }
+}
+
+impl AsRef<[u8]> for Read {
+    fn as_ref(&self) -> &[u8] {
+        self
+    }
+}
+
+impl PartialEq<[u8]> for Read {
+    fn eq(&self, other: &[u8]) -> bool {
+        self.bytes == *other
+    }
+}
+
+impl PartialEq<&[u8]> for Read {
+    fn eq(&self, other: &&[u8]) -> bool {
+        self.bytes == *other
+    }
+}
+
+impl<const N: usize> PartialEq<[u8; N]> for Read {
+    fn eq(&self, other: &[u8; N]) -> bool {
+        self.bytes == *other
+    }
+}
+
+impl<'a> IntoIterator for &'a Read {
+    type Item = &'a u8;
+    type IntoIter = Iter<'a, u8>;
+
+    fn into_iter(self) -> Iter<'a, u8> {
+        self.iter()
     }
 }
 

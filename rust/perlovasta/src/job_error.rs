@@ -62,4 +62,9 @@ impl fmt::Display for JobError {
     }
 }
 
-impl Error for JobError {}
+impl Error for JobError {
+    /// Why the event was refused, which the words have in them too.
+    fn source(&self) -> Option<&(dyn Error + 'static)> {
+        self.refusal.as_ref().map(|refusal| refusal as _)
+    }
+}

@@ -4,6 +4,9 @@
 //! [`trace`] a list of register accesses and bus events; they keep nothing from one call to the
 //! next. A [`VirtualChip`] is a controller that is held for as long as one likes.
 //!
+//! The crate needs `alloc`: a script is copied to pairs of bytes. The crate `perlovasta-dock` has
+//! the driver for a chip on a board, and needs no heap.
+//!
 //! # A badge is read
 //!
 //! The reader stands at address 50h, and a badge has eight bytes. The script is what the bus does:
@@ -18,7 +21,7 @@
 //! script.push(Event::OwnStop);
 //!
 //! let badge = perlovasta::read(reader, 8, &script)?;
-//! assert_eq!(*badge, [0x04, 0xA2, 0x19, 0x6E, 0x35, 0x80, 0x00, 0x5C]);
+//! assert_eq!(badge, [0x04, 0xA2, 0x19, 0x6E, 0x35, 0x80, 0x00, 0x5C]);
 //! assert_eq!(badge.sent(), [0xA1]); // the address byte: 2 x 50h + 1, for a read
 //! # Ok::<(), Box<dyn std::error::Error>>(())
 //! ```
@@ -39,7 +42,7 @@
 //!
 //! # What does not compile
 //!
-//! A badge that nobody looked whether it was read. This does:
+//! Using a badge without looking whether it was read does not compile. With the look it does:
 //!
 //! ```
 //! # use perlovasta::{Address, Event};
@@ -48,7 +51,7 @@
 //! }
 //! ```
 //!
-//! and this does not:
+//! and without it does not:
 //!
 //! ```compile_fail,E0608
 //! # use perlovasta::{Address, Event};
@@ -58,7 +61,8 @@
 //! }
 //! ```
 //!
-//! An answer that is dropped. This compiles:
+//! Dropping an answer is a warning. It does not compile where the caller's crate has
+//! `#![deny(unused_must_use)]`. Handed on it does:
 //!
 //! ```
 //! #![deny(unused_must_use)]
@@ -69,7 +73,7 @@
 //! }
 //! ```
 //!
-//! and this does not:
+//! and dropped it does not:
 //!
 //! ```compile_fail
 //! #![deny(unused_must_use)]
@@ -80,7 +84,8 @@
 //! }
 //! ```
 //!
-//! An address byte in the place of an address. This compiles:
+//! Passing an address byte or a number in the place of an address does not compile. With the
+//! address it does:
 //!
 //! ```
 //! # use perlovasta::{Address, JobError, Read};
@@ -93,7 +98,7 @@
 //! }
 //! ```
 //!
-//! and neither of these does:
+//! and with the others it does not:
 //!
 //! ```compile_fail,E0080
 //! # use perlovasta::{Address, JobError, Read};
@@ -110,6 +115,19 @@
 //! # use perlovasta::{Address, JobError, Read};
 //! fn badge() -> Result<Read, JobError> {
 //!     perlovasta::read(0x50, 8, &[])
+//! }
+//! ```
+//!
+//! # What still compiles
+//!
+//! An answer that is thrown away by name:
+//!
+//! ```
+//! #![deny(unused_must_use)]
+//! # use perlovasta::{Address, Event};
+//! fn open(lock: Address, script: &[Event]) {
+//!     let _ = perlovasta::write(lock, &[0x01], script);
+//!     perlovasta::write(lock, &[0x01], script).ok();
 //! }
 //! ```
 //!

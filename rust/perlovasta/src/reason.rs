@@ -49,8 +49,11 @@ impl Reason {
 
     /// The reason of that number.
     #[must_use]
-    pub fn from_number(number: u8) -> Option<Self> {
-        Self::ALL.get(usize::from(number)).copied()
+    pub const fn from_number(number: u8) -> Option<Self> {
+        match number {
+            0..=6 => Some(Self::ALL[number as usize]),
+            _ => None,
+        }
     }
 }
 

@@ -52,9 +52,11 @@ impl Refusal {
 
     /// The refusal of that number.
     #[must_use]
-    pub fn from_number(number: u8) -> Option<Self> {
-        let index = usize::from(number).checked_sub(1)?;
-        Self::ALL.get(index).copied()
+    pub const fn from_number(number: u8) -> Option<Self> {
+        match number {
+            1..=10 => Some(Self::ALL[number as usize - 1]),
+            _ => None,
+        }
     }
 
     /// The refusal of that number, none for 0.

@@ -91,14 +91,12 @@ pub fn job(
     script: &[u8],
     report: &mut [u8],
 ) -> u8 {
-    if overlap(data, script) {
-        let own = &copied(data);
-        return job(kind, address, n, own, destination, out, script, report);
-    }
+    let copy = overlap(data, script).then(|| copied(data));
+    let data = copy.as_deref().unwrap_or(data);
     // SAFETY: each pointer comes from a slice, with that slice's length, so it is not null and
     // lends that many bytes for the call; those of `&mut` slices may be written. No two overlap:
-    // a `&mut` slice shares no byte with any other, and `data` and `script` were tested above. The
-    // library keeps no pointer.
+    // a `&mut` slice shares no byte with any other, and `data` is a copy where it would share one
+    // with `script`. The library keeps no pointer.
     unsafe {
         c::perlovasta_job(
             kind,
@@ -174,20 +172,8 @@ pub fn chip_job(
     script: &[u8],
     report: &mut [u8],
 ) -> u8 {
-    if overlap(data, script) {
-        let own = &copied(data);
-        return chip_job(
-            chip,
-            kind,
-            address,
-            n,
-            own,
-            destination,
-            out,
-            script,
-            report,
-        );
-    }
+    let copy = overlap(data, script).then(|| copied(data));
+    let data = copy.as_deref().unwrap_or(data);
     // SAFETY: as in `job`; `chip` is a `&mut` slice as well.
     unsafe {
         c::perlovasta_chip_job(

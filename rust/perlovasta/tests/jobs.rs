@@ -46,8 +46,13 @@ fn printed_example() {
 #[test]
 fn case_a() {
     let bytes = read(device(), 1, &read_script(&[0x5C])).expect("it is done");
-    assert_eq!(*bytes, [0x5C]);
-    assert_eq!(*bytes.bytes(), [0x5C]);
+    assert_eq!(bytes, [0x5C]);
+    assert_eq!(bytes, [0x5C][..]);
+    assert_eq!(bytes, bytes.as_ref());
+    assert_eq!(bytes.bytes(), [0x5C]);
+    for byte in &bytes {
+        assert_eq!(*byte, 0x5C);
+    }
     assert_eq!((bytes.sent(), bytes.events()), (&[0xA1][..], 4));
 }
 
@@ -134,6 +139,8 @@ fn a_read_that_is_not_done_has_no_bytes() {
 fn a_refused_event_is_told() {
     let error = read(device(), 3, &[STOP]).unwrap_err();
     assert_eq!(error.refusal(), Some(Refusal::Unexpected));
+    let source = error.source().and_then(|source| source.downcast_ref());
+    assert_eq!(source, Some(&Refusal::Unexpected));
     assert_eq!(
         error.to_string(),
         "the controller refused an event: the event is not expected now"

@@ -24,8 +24,16 @@ fn one_target() {
 }
 
 #[test]
+fn remedies() {
+    let unset = link::remedy("dock", false);
+    assert!(unset.contains("rt staticlib dock") && !unset.contains("unset it"));
+    assert!(link::remedy("dock", true).ends_with("PERLOVASTA_LIB_DIR, or unset it"));
+}
+
+#[test]
 fn folders() {
     let root = Path::new(env!("CARGO_MANIFEST_DIR")).join("../..");
+    let root = root.canonicalize().expect("the repository's root");
     let default = root.join("target/staticlib");
     assert_eq!(link::folder(None), default);
     assert_eq!(link::folder(Some(Path::new(""))), default);

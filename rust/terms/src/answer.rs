@@ -62,12 +62,11 @@ impl Answer {
             _ => None,
         }
     }
-}
 
-/// In the words of `perlovasta_terms.h`.
-impl fmt::Display for Answer {
-    fn fmt(&self, f: &mut fmt::Formatter<'_>) -> fmt::Result {
-        f.write_str(match self {
+    /// The answer in the words of `perlovasta_terms.h`.
+    #[must_use]
+    pub const fn words(self) -> &'static str {
+        match self {
             Answer::Done => "done",
             Answer::Malformed => "the job's count, address, lengths or script are wrong",
             Answer::NotReady => "the controller is not ready",
@@ -78,7 +77,14 @@ impl fmt::Display for Answer {
             Answer::Unfinished => "the script ended first",
             Answer::Refused => "the controller refused an event",
             Answer::Reset => "the controller was reset",
-        })
+        }
+    }
+}
+
+/// In its [words](Answer::words).
+impl fmt::Display for Answer {
+    fn fmt(&self, f: &mut fmt::Formatter<'_>) -> fmt::Result {
+        f.write_str(self.words())
     }
 }
 

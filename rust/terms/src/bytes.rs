@@ -2,7 +2,9 @@
 
 use crate::PLACES;
 use core::fmt;
+use core::hash::{Hash, Hasher};
 use core::ops::Deref;
+use core::slice::Iter;
 
 /// Some bytes, `ROOM` at most: those of a finished read, where nothing else is said. They are used
 /// as the slice of them.
@@ -13,11 +15,12 @@ pub struct Bytes<const ROOM: usize = PLACES> {
 }
 
 impl<const ROOM: usize> Bytes<ROOM> {
-    /// The first so many of these.
+    /// The first so many of these: for the crates that hand bytes out.
     ///
     /// # Panics
     ///
     /// If there are fewer.
+    #[doc(hidden)]
     #[must_use]
     pub fn first(room: [u8; ROOM], length: usize) -> Self {
         assert!(length <= ROOM, "{length} bytes of {ROOM}");
@@ -47,6 +50,39 @@ impl<const ROOM: usize> PartialEq for Bytes<ROOM> {
 
 impl<const ROOM: usize> Eq for Bytes<ROOM> {}
 
+impl<const ROOM: usize> PartialEq<[u8]> for Bytes<ROOM> {
+    fn eq(&self, other: &[u8]) -> bool {
+        **self == *other
+    }
+}
+
+impl<const ROOM: usize> PartialEq<&[u8]> for Bytes<ROOM> {
+    fn eq(&self, other: &&[u8]) -> bool {
+        **self == **other
+    }
+}
+
+impl<const ROOM: usize, const N: usize> PartialEq<[u8; N]> for Bytes<ROOM> {
+    fn eq(&self, other: &[u8; N]) -> bool {
+        **self == *other
+    }
+}
+
+impl<const ROOM: usize> Hash for Bytes<ROOM> {
+    fn hash<H: Hasher>(&self, state: &mut H) {
+        (**self).hash(state);
+    }
+}
+
+impl<'a, const ROOM: usize> IntoIterator for &'a Bytes<ROOM> {
+    type Item = &'a u8;
+    type IntoIter = Iter<'a, u8>;
+
+    fn into_iter(self) -> Iter<'a, u8> {
+        self.iter()
+    }
+}
+
 impl<const ROOM: usize> fmt::Debug for Bytes<ROOM> {
     fn fmt(&self, f: &mut fmt::Formatter<'_>) -> fmt::Result {
         fmt::Debug::fmt(&**self, f)
@@ -57,6 +93,7 @@ impl<const ROOM: usize> fmt::Debug for Bytes<ROOM> {
 mod tests {
     use super::Bytes;
     use std::format;
+    use std::hash::{DefaultHasher, Hash, Hasher};
 
     #[test]
     fn the_rest_of_the_room_is_not_shown() {
@@ -65,6 +102,27 @@ mod tests {
         assert_eq!(one, other);
         assert_ne!(one, Bytes::first([1, 2, 9], 3));
         assert_eq!(format!("{one:?}"), "[1, 2]");
+        assert_eq!(hash(one), hash(other));
+    }
+
+    fn hash(bytes: Bytes<3>) -> u64 {
+        let mut hasher = DefaultHasher::new();
+        bytes.hash(&mut hasher);
+        hasher.finish()
+    }
+
+    #[test]
+    fn they_are_used_as_a_slice() {
+        let bytes = Bytes::first([1, 2, 9], 2);
+        assert_eq!(bytes, [1, 2]);
+        assert_eq!(bytes, [1, 2][..]);
+        assert_eq!(bytes, &[1, 2][..]);
+        assert_ne!(bytes, [1, 2, 9]);
+        let mut sum = 0;
+        for byte in &bytes {
+            sum += byte;
+        }
+        assert_eq!(sum, 3);
     }
 
     #[test]

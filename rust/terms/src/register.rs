@@ -1,5 +1,7 @@
 //! The four registers of a chip.
 
+use core::fmt;
+
 /// One of the four registers of a chip.
 #[derive(Clone, Copy, Debug, PartialEq, Eq, Hash)]
 pub enum Register {
@@ -41,9 +43,22 @@ impl Register {
     }
 }
 
+/// By its name in the data sheet.
+impl fmt::Display for Register {
+    fn fmt(&self, f: &mut fmt::Formatter<'_>) -> fmt::Result {
+        f.write_str(match self {
+            Register::Status => "I2CSTA or INDPTR",
+            Register::Data => "I2CDAT",
+            Register::AtPointer => "the register at the pointer",
+            Register::Control => "I2CCON",
+        })
+    }
+}
+
 #[cfg(test)]
 mod tests {
     use super::Register;
+    use std::string::ToString;
 
     #[test]
     fn numbers_go_both_ways() {
@@ -53,5 +68,6 @@ mod tests {
         }
         assert_eq!(Register::from_number(4), None);
         assert_eq!(Register::POINTER.number(), 0);
+        assert_eq!(Register::Control.to_string(), "I2CCON");
     }
 }

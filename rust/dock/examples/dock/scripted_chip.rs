@@ -3,15 +3,16 @@
 use perlovasta::{Event, Refusal, VirtualChip};
 use perlovasta_dock::{Board, Clock, Register, Wait};
 
-/// A virtual chip on whose bus the next event of a script comes at each wait.
-pub struct ScriptedChip<'a> {
+/// A virtual chip on whose bus the next pair of a script, an event's number and its argument,
+/// happens at each wait.
+pub struct ScriptedChip<S> {
     chip: VirtualChip,
-    script: &'a [Event],
+    script: S,
 }
 
-impl<'a> ScriptedChip<'a> {
+impl<S: Iterator<Item = [u8; 2]>> ScriptedChip<S> {
     /// A fresh chip with this script.
-    pub fn new(script: &'a [Event]) -> Self {
+    pub fn new(script: S) -> Self {
         ScriptedChip {
             chip: VirtualChip::new(),
             script,
@@ -20,7 +21,7 @@ impl<'a> ScriptedChip<'a> {
 }
 
 /// These three a board replaces.
-impl Board for ScriptedChip<'_> {
+impl<S: Iterator<Item = [u8; 2]>> Board for ScriptedChip<S> {
     /// Why the chip refused an access or an event.
     type Error = Refusal;
 
@@ -32,16 +33,15 @@ impl Board for ScriptedChip<'_> {
         self.chip.write(register, value)
     }
 
-    /// The time is over with the script.
+    /// The time is over with the script. Pairs that are not reached are not looked at.
     fn wait(&mut self, wait: Wait) -> Result<Clock, Refusal> {
         if wait == Wait::Pause {
             return Ok(Clock::Running);
         }
-        let Some((&event, rest)) = self.script.split_first() else {
+        let Some(pair) = self.script.next() else {
             return Ok(Clock::RanOut);
         };
-        self.script = rest;
-        self.chip.event(event)?;
+        self.chip.event(Event::try_from(pair)?)?;
         Ok(Clock::Running)
     }
 }
