@@ -121,7 +121,8 @@ rules-observed [] c = refl
 rules-observed (i ∷ items) c =
     let x = item-is i c in
     ap (λ (g : JobCall). g ∷ rulesGive (recordAfter c (askedOf i)) (allAsked items)) (x .0)
-    ∙ ap (λ (gs : List JobCall). given (step i c .seen) ∷ gs) (ap (λ (d : Controller). rulesGive d (allAsked items)) (x .1) ∙ rules-observed items (step i c .next))
+    ∙ ap (λ (gs : List JobCall). given (step i c .seen) ∷ gs)
+    (ap (λ (d : Controller). rulesGive d (allAsked items)) (x .1) ∙ rules-observed items (step i c .next))
 
 -- a finished read hands up what the bus carried, also by its call
 job-carries : (report : ℕ) (m : List ℕ) (q : GivenJob) → callGives report m (job (inNumbers q)) ≡ tells (reportOf q (recordOf m)) →

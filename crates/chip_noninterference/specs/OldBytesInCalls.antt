@@ -1,5 +1,5 @@
--- Demand 3 of two virtual chips, as one statement, `Demand3OfCalls`, at the end of this file: what crates/noninterference/specs/OldBytes.antt says of two records and
--- the rules, said of 88 bytes each and of the library's calls on them. The proof is in proofs/OldBytesInCalls.antt.
+-- Demand 3 of two virtual chips, as one statement, `Demand3OfCalls`, at the end of this file: what crates/noninterference/specs/OldBytes.antt says of two
+-- records and the rules, said of 88 bytes each and of the library's calls on them. The proof is in proofs/OldBytesInCalls.antt.
 use mathlib.Core.Bool.{true}
 use mathlib.Core.List.{List, [], _∷_}
 use mathlib.Core.Path.{_≡_}
@@ -46,7 +46,7 @@ unfoldable pub allAsked : List Item → List Asked
 allAsked [] = []
 allAsked (i ∷ items) = askedOf i ∷ allAsked items
 
--- "the bytes handed up are exactly those the bus carried in that read, in the order it carried them": of one item, and there is nothing to say of what is no job
+-- "the bytes handed up are exactly those the bus carried in that read, in the order it carried them": of one item; of what is no job there is nothing to say
 abbrev pub CallCarries : ℕ → List ℕ → Item → Type 0
 CallCarries report m (runJob q) = let given = callGives report m (job (inNumbers q)) in
     given .answer ≡ 0 → q .job .direction ≡ Read → (given .handed ≡ carried (q .script)) × (length (given .handed) ≡ q .job .n)
@@ -63,8 +63,8 @@ abbrev pub CallsCarry : ℕ → List ℕ → List Item → Type 0
 CallsCarry report m [] = Unit {0}
 CallsCarry report m (i ∷ items) = CallCarries report m i × CallsCarry report (bytesAfter report m (askedOf i)) items
 
--- Two virtual chips that are alike in all but the 68 places, which are bytes 20 to 87, given the same list: all that the callers are given is the same, from the first on
--- the list to the last; and a finished read hands up what the bus carried. (Each job is lent a report with room for its 12 bytes.)
+-- Two virtual chips that are alike in all but the 68 places, which are bytes 20 to 87, given the same list: all that the callers are given is the same, from
+-- the first on the list to the last; and a finished read hands up what the bus carried. (Each job is lent a report with room for its 12 bytes.)
 abbrev pub Demand3OfCalls : Type 0
 Demand3OfCalls = (report : ℕ) (items : List Item) (m m′ : List ℕ) → 12 ≤ report → isRecord m ≡ true → 88 ≤ length m′ → take 20 m ≡ take 20 m′ →
     (callsGive report m (allAsked items) ≡ callsGive report m′ (allAsked items)) × CallsCarry report m items × CallsCarry report m′ items

@@ -61,7 +61,7 @@ left-back m r there places leaves =
 pub one-call : (report : ℕ) (m : List ℕ) (x : Asked) → 12 ≤ report → isRecord m ≡ true →
     (callGives report m x ≡ ruleGives (recordOf m) x) × Back (recordAfter (recordOf m) x) (bytesAfter report m x)
 unfolding callGives ruleGives bytesAfter recordAfter jobCallOn chipAfterJob
-one-call report m (access g) room there = let c = called m g there in (ap replied (c .0), c .1)
+one-call report m (access g) room there = let c = called m (g .kind) (g .place) (g .value) there in (ap replied (c .0), c .1)
 one-call report m (job j) room there =
     let c = recordOf m in
     let enough = le-ltb report 12 room in

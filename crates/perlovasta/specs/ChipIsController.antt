@@ -8,9 +8,14 @@ use Rattle.controller.specs.declared.record.Controller.{Controller}
 use Rattle.notation.specs.Overlay.{laid}
 use Rattle.requests.specs.Groups.{groupOf}
 use Rattle.virtual_chip.specs.Calls.{packed, accessCall}
-use Rattle.virtual_chip.specs.ReadBack.{Group}
 use Rattle.virtual_chip.specs.RecordBytes.{isRecord, recordOf}
 use Rattle.perlovasta.specs.Job.{JobCall, requestReport, tells, chipJobCall, chipAfterJob}
+
+-- an access or event in numbers: kind (0 read, 1 write, any other an event), place and value, as in a trace
+pub record Group : Type 0 where
+  pub kind : ℕ
+  pub place : ℕ
+  pub value : ℕ
 
 -- a job in numbers, with its data, the lengths of destination and out record, and its script
 pub record JobAsked : Type 0 where

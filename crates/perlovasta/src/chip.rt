@@ -58,11 +58,22 @@ pub extern "C" fn perlovasta_chip_job(
     script: &[u8],
     report: &mut [u8],
 ) -> u8
-    ensures answer { λ r. ⌜ r ≡ (chipJobCall (now (chip .entry)) kind address n (now (payload .entry)) (length (now (destination .entry))) (length (now (out .entry))) (now (script .entry)) (length (now (report .entry)))) .answer ⌝ }
-    ensures handed { λ _. ⌜ now (destination .exit) ≡ laid ((chipJobCall (now (chip .entry)) kind address n (now (payload .entry)) (length (now (destination .entry))) (length (now (out .entry))) (now (script .entry)) (length (now (report .entry)))) .handed) (now (destination .entry)) ⌝ }
-    ensures sent { λ _. ⌜ now (out .exit) ≡ laid ((chipJobCall (now (chip .entry)) kind address n (now (payload .entry)) (length (now (destination .entry))) (length (now (out .entry))) (now (script .entry)) (length (now (report .entry)))) .sent) (now (out .entry)) ⌝ }
-    ensures told { λ _. ⌜ now (report .exit) ≡ laid ((chipJobCall (now (chip .entry)) kind address n (now (payload .entry)) (length (now (destination .entry))) (length (now (out .entry))) (now (script .entry)) (length (now (report .entry)))) .told) (now (report .entry)) ⌝ }
-    ensures chip { λ _. ⌜ now (chip .exit) ≡ laid (chipAfterJob (now (chip .entry)) kind address n (now (payload .entry)) (length (now (destination .entry))) (length (now (out .entry))) (now (script .entry)) (length (now (report .entry)))) (now (chip .entry)) ⌝ }
+    ensures answer { λ r. ⌜ r
+        ≡ (chipJobCall (now (chip .entry)) kind address n (now (payload .entry))
+        (length (now (destination .entry))) (length (now (out .entry))) (now (script .entry)) (length (now (report .entry)))) .answer ⌝ }
+    ensures handed { λ _. ⌜ now (destination .exit)
+        ≡ laid ((chipJobCall (now (chip .entry)) kind address n (now (payload .entry))
+        (length (now (destination .entry))) (length (now (out .entry)))
+        (now (script .entry)) (length (now (report .entry)))) .handed) (now (destination .entry)) ⌝ }
+    ensures sent { λ _. ⌜ now (out .exit)
+        ≡ laid ((chipJobCall (now (chip .entry)) kind address n (now (payload .entry))
+        (length (now (destination .entry))) (length (now (out .entry))) (now (script .entry)) (length (now (report .entry)))) .sent) (now (out .entry)) ⌝ }
+    ensures told { λ _. ⌜ now (report .exit)
+        ≡ laid ((chipJobCall (now (chip .entry)) kind address n (now (payload .entry))
+        (length (now (destination .entry))) (length (now (out .entry))) (now (script .entry)) (length (now (report .entry)))) .told) (now (report .entry)) ⌝ }
+    ensures chip { λ _. ⌜ now (chip .exit)
+        ≡ laid (chipAfterJob (now (chip .entry)) kind address n (now (payload .entry))
+        (length (now (destination .entry))) (length (now (out .entry))) (now (script .entry)) (length (now (report .entry)))) (now (chip .entry)) ⌝ }
 {
     let short = report.len() < 12;
     if short {

@@ -25,10 +25,18 @@ fn run_request(
     out: &mut [u8],
     script: &[u8],
 ) -> JobResult
-    ensures result { λ r. ⌜ resultOf r ≡ (requestReport c kind address n (now (payload .entry)) (length (now (destination .entry))) (length (now (out .entry))) (now (script .entry))) .result ⌝ }
-    ensures handed { λ _. ⌜ now (destination .exit) ≡ laid ((requestReport c kind address n (now (payload .entry)) (length (now (destination .entry))) (length (now (out .entry))) (now (script .entry))) .handed) (now (destination .entry)) ⌝ }
-    ensures sent { λ _. ⌜ now (out .exit) ≡ laid ((requestReport c kind address n (now (payload .entry)) (length (now (destination .entry))) (length (now (out .entry))) (now (script .entry))) .sent) (now (out .entry)) ⌝ }
-    ensures number { λ r. ⌜ r .sent ≡ length ((requestReport c kind address n (now (payload .entry)) (length (now (destination .entry))) (length (now (out .entry))) (now (script .entry))) .sent) ⌝ }
+    ensures result { λ r. ⌜ resultOf r
+        ≡ (requestReport c kind address n (now (payload .entry))
+        (length (now (destination .entry))) (length (now (out .entry))) (now (script .entry))) .result ⌝ }
+    ensures handed { λ _. ⌜ now (destination .exit)
+        ≡ laid ((requestReport c kind address n (now (payload .entry))
+        (length (now (destination .entry))) (length (now (out .entry))) (now (script .entry))) .handed) (now (destination .entry)) ⌝ }
+    ensures sent { λ _. ⌜ now (out .exit)
+        ≡ laid ((requestReport c kind address n (now (payload .entry))
+        (length (now (destination .entry))) (length (now (out .entry))) (now (script .entry))) .sent) (now (out .entry)) ⌝ }
+    ensures number { λ r. ⌜ r .sent
+        ≡ length ((requestReport c kind address n (now (payload .entry))
+        (length (now (destination .entry))) (length (now (out .entry))) (now (script .entry))) .sent) ⌝ }
 {
     let strange = 1 < kind;
     if strange {
@@ -73,11 +81,21 @@ pub(crate) fn run_reported(
     chip: &mut [u8],
 ) -> u8
     requires { ⌜ (12 ≤ length (now report)) × (length (c .buffer) ≡ 68) ⌝ }
-    ensures answer { λ r. ⌜ r ≡ (requestReport c kind address n (now (payload .entry)) (length (now (destination .entry))) (length (now (out .entry))) (now (script .entry))) .result .answer ⌝ }
-    ensures handed { λ _. ⌜ now (destination .exit) ≡ laid ((requestReport c kind address n (now (payload .entry)) (length (now (destination .entry))) (length (now (out .entry))) (now (script .entry))) .handed) (now (destination .entry)) ⌝ }
-    ensures sent { λ _. ⌜ now (out .exit) ≡ laid ((requestReport c kind address n (now (payload .entry)) (length (now (destination .entry))) (length (now (out .entry))) (now (script .entry))) .sent) (now (out .entry)) ⌝ }
-    ensures told { λ _. ⌜ now (report .exit) ≡ laid (reportOfJob (requestReport c kind address n (now (payload .entry)) (length (now (destination .entry))) (length (now (out .entry))) (now (script .entry)))) (now (report .entry)) ⌝ }
-    ensures chip { λ _. ⌜ now (chip .exit) ≡ laid (resultLeft (length (now (chip .entry))) ((requestReport c kind address n (now (payload .entry)) (length (now (destination .entry))) (length (now (out .entry))) (now (script .entry))) .result)) (now (chip .entry)) ⌝ }
+    ensures answer { λ r. ⌜ r
+        ≡ (requestReport c kind address n (now (payload .entry))
+        (length (now (destination .entry))) (length (now (out .entry))) (now (script .entry))) .result .answer ⌝ }
+    ensures handed { λ _. ⌜ now (destination .exit)
+        ≡ laid ((requestReport c kind address n (now (payload .entry))
+        (length (now (destination .entry))) (length (now (out .entry))) (now (script .entry))) .handed) (now (destination .entry)) ⌝ }
+    ensures sent { λ _. ⌜ now (out .exit)
+        ≡ laid ((requestReport c kind address n (now (payload .entry))
+        (length (now (destination .entry))) (length (now (out .entry))) (now (script .entry))) .sent) (now (out .entry)) ⌝ }
+    ensures told { λ _. ⌜ now (report .exit)
+        ≡ laid (reportOfJob (requestReport c kind address n (now (payload .entry))
+        (length (now (destination .entry))) (length (now (out .entry))) (now (script .entry)))) (now (report .entry)) ⌝ }
+    ensures chip { λ _. ⌜ now (chip .exit)
+        ≡ laid (resultLeft (length (now (chip .entry))) ((requestReport c kind address n (now (payload .entry))
+        (length (now (destination .entry))) (length (now (out .entry))) (now (script .entry))) .result)) (now (chip .entry)) ⌝ }
 {
     let result = run_request(c, kind, address, n, payload, destination, out, script);
     put_report(report, result);

@@ -1,6 +1,6 @@
 -- The record's bytes lead back to the record that they were made of. Assumes nothing.
 use mathlib.Core.Bool.{Bool, true, false}
-use mathlib.Core.List.{List, [], _∷_, _++_}
+use mathlib.Core.List.{List, _++_}
 use mathlib.Core.Path.{_≡_, refl, sym, ap, subst, _∙_}
 use Prim.Native.Nat.{ℕ}
 use native.Mathlib.Omega.{arith}
@@ -31,7 +31,7 @@ use Rattle.virtual_chip.proofs.Bytes.{record-long, record-places}
 use Rattle.virtual_chip.proofs.Places.{group-sized}
 use Rattle.virtual_chip.specs.Calls.{ChipCall, refusing, packed, replying, accessCall}
 use Rattle.virtual_chip.specs.Numbers.{hostNumber, slaveNumber, turnNumber, isTurn, turnFor, reasonFor}
-use Rattle.virtual_chip.specs.ReadBack.{ReadBack, Group, callsAnswer, rulesAnswer, CallsInTurn}
+use Rattle.virtual_chip.specs.ReadBack.{ReadBack}
 use Rattle.virtual_chip.specs.RecordBytes.{flagBytes, registerBytes, headBytes, bytesOf, flagsIn, recordIn, isRecord, decoded, recordOf}
 
 -- a turn, by its number and status
@@ -141,9 +141,9 @@ kept c kind place value =
     Keeps o = (o .refused ≡ 0 → ⊥) → o .next ≡ c
 
 -- one call: its answer, and the record in the bytes after it
-module _ (m : List ℕ) (g : Group) (there : isRecord m ≡ true) where
+module _ (m : List ℕ) (kind place value : ℕ) (there : isRecord m ≡ true) where
   abbrev pub o : Outcome
-  o = groupOf (recordOf m) (g .kind) (g .place) (g .value)
+  o = groupOf (recordOf m) kind place value
 
   abbrev pub Called : ChipCall → Type 0
   Called call = (call .answer ≡ packed o) × Back (o .next) (laid (call .bytes) m)
@@ -152,20 +152,9 @@ module _ (m : List ℕ) (g : Group) (there : isRecord m ≡ true) where
   unfolding replying refusing laid
   replied =
       split Called (eqb (o .refused) 0) _ _
-      (λ _. (refl, read-back (o .next) m (group-sized (recordOf m) (g .kind) (g .place) (g .value) .places ∙ record-places m) (record-long m there)))
-      (λ e. (refl, (there, sym (kept (recordOf m) (g .kind) (g .place) (g .value) (eqb-false _ _ e)))))
+      (λ _. (refl, read-back (o .next) m (group-sized (recordOf m) kind place value .places ∙ record-places m) (record-long m there)))
+      (λ e. (refl, (there, sym (kept (recordOf m) kind place value (eqb-false _ _ e)))))
 
-  pub called : Called (accessCall m (g .kind) (g .place) (g .value))
+  pub called : Called (accessCall m kind place value)
   unfolding accessCall
   called = subst Called (sym (if-true _ _ _ there)) replied
-
--- CALLS IN TURN: the calls answer as the rules, from the first to the last.
-pub calls-in-turn : CallsInTurn
-unfolding callsAnswer rulesAnswer
-calls-in-turn m [] there = refl
-calls-in-turn m (g ∷ gs) there =
-    let one = called m g there in
-    let next = laid (accessCall m (g .kind) (g .place) (g .value) .bytes) m in
-    ap (λ (x : ℕ). x ∷ callsAnswer next gs) (one .0)
-    ∙ ap (λ (xs : List ℕ). packed (o m g there) ∷ xs)
-    (calls-in-turn next gs (one .1 .0) ∙ ap (λ (c : Controller). rulesAnswer c gs) (one .1 .1))
