@@ -38,6 +38,6 @@ fn folders() {
     assert_eq!(link::folder(None), default);
     assert_eq!(link::folder(Some(Path::new(""))), default);
     assert_eq!(link::folder(Some(Path::new("lib"))), root.join("lib"));
-    let absolute = Path::new("/usr/lib");
+    let absolute = Path::new("/elsewhere");
     assert_eq!(link::folder(Some(absolute)), absolute);
 }
