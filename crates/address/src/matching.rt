@@ -6,7 +6,7 @@ ghost use Rattle.address.specs.Matching.{calls_all, calls_own, call_of, match_of
 use crate::number::{Address, AddressByte, Direction};
 
 // What an address byte calls here.
-#[derive(Drop)]
+#[derive(Clone, Copy)]
 pub enum Match {
     Own(Direction),
     General,
@@ -14,7 +14,7 @@ pub enum Match {
 }
 
 // What the match answers: what was called and, in every case, the seven-bit address of the byte.
-#[derive(Drop)]
+#[derive(Clone, Copy)]
 pub struct AddressMatch {
     pub call: Match,
     pub address: Address,

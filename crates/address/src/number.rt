@@ -3,15 +3,15 @@ ghost use Rattle.std.specs.Prelude.{◌≡◌};
 ghost use Rattle.address.specs.Number.{bit_of, byte_of, address_of, direction_of};
 
 // A seven-bit address.
-#[derive(Drop)]
+#[derive(Clone, Copy)]
 pub struct Address(pub u8);
 
 // An address byte: 2 x address + R.
-#[derive(Drop)]
+#[derive(Clone, Copy)]
 pub struct AddressByte(pub u8);
 
 // R: 0 for a write, 1 for a read.
-#[derive(Drop)]
+#[derive(Clone, Copy)]
 pub enum Direction {
     Write,
     Read,

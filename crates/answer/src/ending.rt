@@ -4,7 +4,7 @@ ghost use Rattle.answer.specs.Ending.{number_of, beside_of};
 
 use crate::Refusal;
 
-#[derive(Drop)]
+#[derive(Clone, Copy)]
 pub enum Ending {
     // Done, after own STOP.
     Done,

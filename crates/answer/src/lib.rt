@@ -1,11 +1,13 @@
 // What a register access, a bus event or a job answers, and the paper's numbers for it.
+#![tactic(auto)]
+
 pub mod ending;
 
 ghost use Rattle.std.specs.Prelude.{◌≡◌};
 ghost use Rattle.answer.specs.Refusal.{refusal_number, refusal_of, value_of};
 
 // Why an access or event is refused.
-#[derive(Drop)]
+#[derive(Clone, Copy)]
 pub enum Refusal {
     OutOfRange,
     BadArgument,
@@ -19,7 +21,7 @@ pub enum Refusal {
     Unsound,
 }
 
-#[derive(Drop)]
+#[derive(Clone, Copy)]
 pub enum Answer {
     // The value.
     Accepted(u8),

@@ -1,4 +1,6 @@
 // The bench program: reads a trace from standard input and prints what the model does, for comparison with a bench chip.
+#![tactic(auto)]
+
 mod extent;
 mod jobs;
 mod print;

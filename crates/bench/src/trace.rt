@@ -9,7 +9,7 @@ use requests::groups::access;
 const LIMIT: usize = 65536;
 
 // How far the groups of a trace were worked.
-#[derive(Drop)]
+#[derive(Clone, Copy)]
 struct Worked {
     controller: Controller,
     at: usize,

@@ -1,4 +1,6 @@
 // I2CDAT, many bytes at once: what as many register accesses give, on one record in place.
+#![tactic(auto)]
+
 ghost use Rattle.std.specs.Prelude.{◌≡◌, length};
 ghost use Rattle.block.specs.Block.{reach_of, written, after_reads, values_read};
 

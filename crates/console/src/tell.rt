@@ -11,7 +11,7 @@ use driver::job::run_job;
 use service::job::Job;
 
 // The record after a job, and the length of its text.
-#[derive(Drop)]
+#[derive(Clone, Copy)]
 pub struct Told {
     pub controller: Controller,
     pub end: usize,

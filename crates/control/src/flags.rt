@@ -3,7 +3,7 @@ ghost use Rattle.std.specs.Prelude.{◌≡◌, ◌≤◌};
 ghost use Rattle.control.specs.Flags.{flags_of, weighs, reads_as};
 
 // The stored flags of I2CCON. SI is not stored: it is 1 exactly in Host.
-#[derive(Drop)]
+#[derive(Clone, Copy)]
 pub struct Control {
     pub aa: bool,
     pub ensio: bool,

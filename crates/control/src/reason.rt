@@ -3,7 +3,7 @@ ghost use Rattle.std.specs.Prelude.{◌≡◌};
 ghost use Rattle.control.specs.Reason.{reason_of, reason_number};
 
 // Set with each new status but F8h and by a reset, otherwise kept; a fresh controller has none yet.
-#[derive(Drop)]
+#[derive(Clone, Copy)]
 pub enum Reason {
     NoneYet,
     // The address byte, or the last data byte of a move, was acknowledged.

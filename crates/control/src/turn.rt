@@ -3,21 +3,21 @@ ghost use Rattle.std.specs.Prelude.{◌≡◌, [], ◌∷◌};
 ghost use Rattle.control.specs.Turn.{host, waits, wire_turns, data_turns, status_of, at38h};
 
 // Which bus condition ended a slave reception. It matters at status A0h alone; the events write `Stop` with every other.
-#[derive(Drop)]
+#[derive(Clone, Copy)]
 pub enum Edge {
     Stop,
     Start,
 }
 
 // By which address the controller was called as a slave receiver.
-#[derive(Drop)]
+#[derive(Clone, Copy)]
 pub enum Called {
     Own,
     General,
 }
 
 // What the controller waits for; Address to Restarting are the wire turns.
-#[derive(Drop)]
+#[derive(Clone, Copy)]
 pub enum Turn {
     Off,
     // SI is 1, and the host has the next move (at 38h the bus has it). The status, and at A0h the bus condition.

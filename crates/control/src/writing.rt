@@ -5,7 +5,7 @@ ghost use Rattle.control.specs.Writing.{end_or, after_edge, responds_at, respons
 use crate::flags::Control;
 use crate::turn::{Called, Edge, Turn};
 
-#[derive(Drop)]
+#[derive(Clone, Copy)]
 pub enum Response {
     Next(Turn),
     Unlisted,

@@ -11,7 +11,7 @@ use answer::{Answer, Refusal};
 use control::flags::Control;
 use control::turn::{Edge, Turn};
 
-#[derive(Drop)]
+#[derive(Clone, Copy)]
 pub enum ReadEffect {
     Refused(Refusal),
     // This is read, and nothing changes.
@@ -21,20 +21,20 @@ pub enum ReadEffect {
 }
 
 // The flags and the turn that an accepted I2CCON write stores.
-#[derive(Drop)]
+#[derive(Clone, Copy)]
 pub struct Setting {
     pub control: Control,
     pub turn: Turn,
 }
 
 // Of I2CCON alone.
-#[derive(Drop)]
+#[derive(Clone, Copy)]
 pub enum ControlEffect {
     Refused(Refusal),
     Set(Setting),
 }
 
-#[derive(Drop)]
+#[derive(Clone, Copy)]
 pub enum WriteEffect {
     Refused(Refusal),
     // INDPTR.
@@ -50,7 +50,7 @@ pub enum WriteEffect {
     Reset,
 }
 
-#[derive(Drop)]
+#[derive(Clone, Copy)]
 pub enum EventEffect {
     Refused(Refusal),
     // Accepted, and nothing changes.

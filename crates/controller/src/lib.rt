@@ -1,4 +1,6 @@
 // A model of the PCA9665 controller: register accesses and bus events in, the next record and an answer out.
+#![tactic(auto)]
+
 pub mod access;
 mod change;
 mod condition;

@@ -8,7 +8,7 @@ use control::reason::Reason;
 use control::turn::Turn;
 
 // The registers at pointers 00h to 04h and 06h.
-#[derive(Drop)]
+#[derive(Clone, Copy)]
 pub struct Registers {
     // I2CCOUNT: LB in bit 7, BC below.
     pub count: u8,
@@ -23,7 +23,7 @@ pub struct Registers {
     pub speed: u8,
 }
 
-#[derive(Drop)]
+#[derive(Clone, Copy)]
 pub struct Controller {
     pub buffer: [u8; 68],
     // The hand place (document 01's term): the cursor of I2CDAT.

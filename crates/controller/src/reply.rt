@@ -11,7 +11,7 @@ use crate::record::Controller;
 use answer::{Answer, Refusal};
 use control::turn::{Edge, Turn};
 
-#[derive(Drop)]
+#[derive(Clone, Copy)]
 pub struct Reply {
     pub controller: Controller,
     pub answer: Answer,

@@ -1,4 +1,6 @@
 // The driver: one read or write job against the controller, run over a script of bus events.
+#![tactic(auto)]
+
 mod hand_up;
 pub mod job;
 mod out_record;

@@ -9,7 +9,7 @@ use controller::record::Controller;
 use service::progress::Progress;
 
 // What a job gives beside the bytes.
-#[derive(Drop)]
+#[derive(Clone, Copy)]
 pub struct JobResult {
     pub controller: Controller,
     pub ending: Ending,
@@ -21,7 +21,7 @@ pub struct JobResult {
 }
 
 // A run that is over: that, and the bytes read back. (One struct with no struct of theirs inside, so that few bytes are copied.)
-#[derive(Drop)]
+#[derive(Clone, Copy)]
 pub(crate) struct Ended {
     pub(crate) controller: Controller,
     pub(crate) ending: Ending,

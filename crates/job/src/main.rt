@@ -1,4 +1,6 @@
 // The program: runs one job from standard input on a fresh controller and prints what it gave.
+#![tactic(auto)]
+
 mod input;
 
 fn main() {

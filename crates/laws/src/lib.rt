@@ -1,1 +1,2 @@
 // Laws of the controller, as theorems over its rules. Nothing here runs.
+#![tactic(auto)]

@@ -1,4 +1,6 @@
 // The library for C and Rust. `entry` has a job and a trace on a controller of their own, `chip` a virtual chip that lasts.
+#![tactic(auto)]
+
 mod chip;
 mod entry;
 mod job;

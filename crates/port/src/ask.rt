@@ -2,7 +2,7 @@
 ghost use Rattle.std.specs.Prelude.{◌≡◌};
 ghost use Rattle.port.specs.Ask.{ask_number};
 
-#[derive(Drop)]
+#[derive(Clone, Copy)]
 pub enum Ask {
     // Write this register, with this value.
     Write(u8, u8),

@@ -1,4 +1,6 @@
 // The port: the driver for a chip, which asks for one register access at a time and makes none itself.
+#![tactic(auto)]
+
 pub mod ask;
 mod asking;
 mod begin;

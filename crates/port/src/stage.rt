@@ -2,7 +2,7 @@
 ghost use Rattle.std.specs.Prelude.{◌≡◌};
 ghost use Rattle.port.specs.Stage.{stage_number, stage_for};
 
-#[derive(Drop)]
+#[derive(Clone, Copy)]
 pub enum Stage {
     // Nothing: it is over, with an answer.
     Over,

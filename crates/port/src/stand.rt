@@ -7,7 +7,7 @@ use address::number::{Address, Direction};
 use service::job::Job;
 
 // The order is for speed: the job last, and no four fields in a row that one function sets to 0, or the compiler packs several fields into one register.
-#[derive(Drop)]
+#[derive(Clone, Copy)]
 pub struct Stand {
     // What was last asked for.
     pub stage: Stage,

@@ -1,1 +1,2 @@
 // No code: theorems of the port, whatever a chip answers.
+#![tactic(auto)]

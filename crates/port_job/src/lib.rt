@@ -1,1 +1,2 @@
 // No code: theorems of the port run against the model.
+#![tactic(auto)]

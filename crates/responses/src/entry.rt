@@ -5,7 +5,7 @@ ghost use Rattle.responses.specs.Entry.{names};
 use answer::Refusal;
 use control::turn::{Called, Turn};
 
-#[derive(Drop)]
+#[derive(Clone, Copy)]
 pub enum Entry {
     // No event gives the status.
     Never,

@@ -2,7 +2,7 @@
 use address::number::{Address, Direction};
 
 // Write or read, to or from this address, this many bytes.
-#[derive(Drop)]
+#[derive(Clone, Copy)]
 pub struct Job {
     pub direction: Direction,
     pub address: Address,

@@ -6,7 +6,7 @@ use answer::ending::Ending;
 use controller::record::Controller;
 
 // What the driver keeps from one pair of the script to the next.
-#[derive(Drop)]
+#[derive(Clone, Copy)]
 pub struct Progress {
     pub controller: Controller,
     // The job has ended.

@@ -1,4 +1,6 @@
 // The program: prints the response table, for the bench.
+#![tactic(auto)]
+
 mod cells;
 mod rows;
 

@@ -1,4 +1,6 @@
 // A controller in lent bytes: a virtual chip that lasts as long as its caller keeps the bytes.
+#![tactic(auto)]
+
 pub mod calls;
 mod memory;
 pub mod numbers;
