@@ -5,7 +5,8 @@ usage: python3 tools/respell.py [--list]     at the top of the repository, once,
 
 A camel-case name becomes snake case (`soundOf`, `sound_of`). A dash stays only between two names, as in `among-has` (`among` and `has`), and is `_`
 elsewhere (`keys-in`, `keys_in`). A lemma that would then have the name of something else gets `_lem`. Names of src/, strings, module paths
-and facts in upper camel case stay. --list prints the table of names and writes nothing.
+and facts in upper camel case stay. The repository's own choice of two values, `if .. then .. else ..`, becomes `when .. then .. else ..`, since
+`rt ci` keeps the other name for the library's. --list prints the table of names and writes nothing.
 """
 import collections
 import glob
@@ -87,6 +88,15 @@ def turned_code(code, table, fields):
     return re.sub(NAME, new, code)
 
 
+def chosen(code, is_clause=False):
+    """The repository's own choice under its name of today, in antt or in a clause of a .rt file."""
+    code = code.replace("if◌then◌else◌", "when◌then◌else◌")
+    code = re.sub(r"(?<![^\s(){}.,])if-(true|false)(?![\w'-])", r"when-\1", code)
+    if is_clause and not re.match(r"\s*(ensures|requires)\b", code):
+        return code
+    return re.sub(r"(?<![\w'◌.-])if(?=\s)", "when", code)
+
+
 def turned_comment(text, table):
     text = re.sub(r"`[^`]*`", lambda quoted: re.sub(NAME.replace(r"\\:", r"\\:`"), lambda it: table.get(it[0], it[0]), quoted[0]), text)
     return re.sub(r"(?<![\w'-])[a-z][a-z0-9]*[A-Z]\w*'?", lambda it: table.get(it[0], it[0]), text)
@@ -97,11 +107,12 @@ def turned(path, table, fields):
     for line in read(path).split("\n"):
         if path.endswith(".rt"):
             camel = {old: new for old, new in table.items() if CAMEL.match(old)}
-            lines.append(re.sub(r"(?<![\w'-])[a-z][a-z0-9]*[A-Z]\w*'?", lambda it: camel.get(it[0], it[0]), line))
+            line = re.sub(r"(?<![\w'-])[a-z][a-z0-9]*[A-Z]\w*'?", lambda it: camel.get(it[0], it[0]), line)
+            lines.append(chosen(line, is_clause=True))
             continue
         cut = re.search(r"(^|\s)--(\s|$)", line)
         at = cut.start() if cut else len(line)
-        lines.append(turned_code(line[:at], table, fields) + turned_comment(line[at:], table))
+        lines.append(chosen(turned_code(line[:at], table, fields)) + turned_comment(line[at:], table))
     return "\n".join(lines)
 
 

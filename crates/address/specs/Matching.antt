@@ -6,7 +6,7 @@ use Rattle.address.specs.declared.matching.Match.TheVariants.{Own, General, Noth
 use Rattle.address.specs.declared.matching.Match.{Match}
 use Rattle.address.specs.declared.number.Address.{Address}
 use Rattle.address.specs.declared.number.AddressByte.{AddressByte}
-use Rattle.notation.specs.Choice.{if◌then◌else◌, ◌and◌}
+use Rattle.notation.specs.Choice.{when◌then◌else◌, ◌and◌}
 
 -- "Byte 00h with .. GC"
 unfoldable pub calls_all : ℕ → AddressByte → Bool
@@ -23,8 +23,8 @@ calls_own i2cadr byte = ltb 0 (own_address i2cadr).0 and eqb (address_of byte).0
 -- what the byte calls: General Call, else the own address with its direction, else nothing; nothing at all with AA 0
 unfoldable pub call_of : ℕ → Bool → AddressByte → Match
 call_of i2cadr aa byte =
-    if aa and calls_all i2cadr byte then General
-    else if aa and calls_own i2cadr byte then Own (direction_of byte)
+    when aa and calls_all i2cadr byte then General
+    else when aa and calls_own i2cadr byte then Own (direction_of byte)
     else Nothing
 
 -- "Let it answer own address with direction, General Call, or none, each with the byte's seven-bit address." (document 02, request 5)

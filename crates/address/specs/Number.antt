@@ -5,7 +5,7 @@ use Rattle.address.specs.declared.number.Address.{Address}
 use Rattle.address.specs.declared.number.AddressByte.{AddressByte}
 use Rattle.address.specs.declared.number.Direction.TheVariants.{Write, Read}
 use Rattle.address.specs.declared.number.Direction.{Direction}
-use Rattle.notation.specs.Choice.{if◌then◌else◌}
+use Rattle.notation.specs.Choice.{when◌then◌else◌}
 
 -- R, the lowest bit
 unfoldable pub bit_of : Direction → ℕ
@@ -22,4 +22,4 @@ address_of byte = record { 0 = byte.0 / 2 }
 
 -- R 1 is a read
 unfoldable pub direction_of : AddressByte → Direction
-direction_of byte = if eqb (byte.0 % 2) 1 then Read else Write
+direction_of byte = when eqb (byte.0 % 2) 1 then Read else Write

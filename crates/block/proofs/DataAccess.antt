@@ -16,8 +16,8 @@ use Rattle.controller.specs.Reply.{Outcome, accepts, refuses}
 use Rattle.controller.specs.Setters.{with_buffer, with_hand, with_armed}
 use Rattle.controller.specs.declared.record.Controller.{Controller}
 use Rattle.block.specs.Block.{reach_of}
-use Rattle.notation.proofs.Cases.{cases, if-true, if-false}
-use Rattle.notation.specs.Choice.{if◌then◌else◌}
+use Rattle.notation.proofs.Cases.{cases, when-true, when-false}
+use Rattle.notation.specs.Choice.{when◌then◌else◌}
 
 -- the hand place is below the reach: no refusal 10, 3 or 7
 record Inside (c : Controller) : Type 0 where
@@ -26,26 +26,26 @@ record Inside (c : Controller) : Type 0 where
   pub hand : c.hand < 68
 
 inside : (c : Controller) → c.hand < reach_of c → Inside c
-unfolding reach_of if◌then◌else◌
+unfolding reach_of when◌then◌else◌
 inside c h = go (sound c) (waits c.turn wire_turns) refl refl h
   where
-    go : (s w : Bool) → sound c ≡ s → waits c.turn wire_turns ≡ w → c.hand < (if s then (if w then 0 else 68) else 0) → Inside c
+    go : (s w : Bool) → sound c ≡ s → waits c.turn wire_turns ≡ w → c.hand < (when s then (when w then 0 else 68) else 0) → Inside c
     go true false e f l = record { sound = e; wire = f; hand = l }
     go true true e f l = absurd (omega arith)
     go false w e f l = absurd (omega arith)
 
 pub reach_most : (c : Controller) → reach_of c ≤ 68
-unfolding reach_of if◌then◌else◌
+unfolding reach_of when◌then◌else◌
 reach_most c = go (sound c) (waits c.turn wire_turns)
   where
-    go : (s w : Bool) → (if s then (if w then 0 else 68) else 0) ≤ 68
+    go : (s w : Bool) → (when s then (when w then 0 else 68) else 0) ≤ 68
     go true false = omega arith
     go true true = omega arith
     go false w = omega arith
 
 reach_whole : (c : Controller) → sound c ≡ true → waits c.turn wire_turns ≡ false → reach_of c ≡ 68
 unfolding reach_of
-reach_whole c e f = if-true (sound c) _ _ e ∙ if-false (waits c.turn wire_turns) _ _ f
+reach_whole c e f = when-true (sound c) _ _ e ∙ when-false (waits c.turn wire_turns) _ _ f
 
 -- the record after an accepted access, whatever became of the buffer and of `armed`
 abbrev pub accessed : Controller → List ℕ → Bool → Controller

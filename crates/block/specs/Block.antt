@@ -5,7 +5,7 @@ use Rattle.control.specs.Turn.{waits, wire_turns}
 use Rattle.controller.specs.Access.{read_of, write_of}
 use Rattle.controller.specs.Record.{sound}
 use Rattle.controller.specs.declared.record.Controller.{Controller}
-use Rattle.notation.specs.Choice.{if◌then◌else◌}
+use Rattle.notation.specs.Choice.{when◌then◌else◌}
 
 -- the record after these bytes were written
 unfoldable pub written : List ℕ → Controller → Controller
@@ -25,4 +25,4 @@ values_read (suc more) c = (read_of c 1).value ∷ values_read more (read_of c 1
 -- For the code's speed, and no rule: I2CDAT reaches the places below this: 68 of them, and none where the record isn't sound (refusal 10) or in a wire
 -- turn (3)
 unfoldable pub reach_of : Controller → ℕ
-reach_of c = if sound c then (if waits c.turn wire_turns then 0 else 68) else 0
+reach_of c = when sound c then (when waits c.turn wire_turns then 0 else 68) else 0

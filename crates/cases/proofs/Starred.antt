@@ -20,7 +20,7 @@ use Rattle.controller.specs.Reply.{refuses, accepts, waits_for, interrupts_at, c
 use Rattle.controller.specs.Reset.{reset_with, completes_reset, write_preset}
 use Rattle.controller.specs.Transfer.{cursor, is_last, data_out, address_status, byte_out, acknowledges_last, received, data_in, slave_in, byte_in}
 use Rattle.driver.specs.Run.{closes, breaks, sending, taking, run, hands_up, reports, declines, job_of}
-use Rattle.notation.specs.Choice.{if◌then◌else◌, ◌and◌, ◌or◌, among}
+use Rattle.notation.specs.Choice.{when◌then◌else◌, ◌and◌, ◌or◌, among}
 use Rattle.runs.specs.Accesses.{status_seen, met}
 use Rattle.service.specs.Act.{put, reads, fetch_one, fetch, read_times, does, does_all, follows, performs}
 use Rattle.service.specs.JobSteps.{count_of}
@@ -30,7 +30,7 @@ use Rattle.service.specs.Request.{bad_length, bad_address, lent, malformed, read
 use Rattle.service.specs.Serve.{starts, serve}
 
 computed : StarredCases × AfterLost × EachStatusMet
-unfolding if◌then◌else◌ ◌and◌ ◌or◌ among calls_all calls_own call_of match_of bit_of byte_of address_of direction_of flags_of weighs reads_as kind status_of
+unfolding when◌then◌else◌ ◌and◌ ◌or◌ among calls_all calls_own call_of match_of bit_of byte_of address_of direction_of flags_of weighs reads_as kind status_of
     edge_of called_of end_or after_edge responds_at response indirect_at bars_read bars_write read_sound read_of write_sound write_of own_start
     other_start other_stop own_stop addressed address_byte outbid address_lost data_lost illegal_edge data_held clock_held idle bad_argument
     event_sound event_of keeps controlled bad_count enabled write_flags write_control host_sound move_sound sound wrote write_pointer read_data

@@ -16,8 +16,8 @@ use Rattle.driver.specs.Run.{Report, job_of}
 use Rattle.noninterference.proofs.Theorem.{demand_3}
 use Rattle.noninterference.specs.OldBytes.{GivenJob, Item, run_job, reset_pin, indptr, register2, i2ccon, anothers_start, anothers_stop, anothers_address}
 use Rattle.noninterference.specs.OldBytes.{Seen, answered, worked, step, report_of, Compared, observe, HandsUpCarried, AllCarry, AlikeButForPlaces}
-use Rattle.notation.proofs.Cases.{if-true, if-false}
-use Rattle.notation.specs.Choice.{if◌then◌else◌}
+use Rattle.notation.proofs.Cases.{when-true, when-false}
+use Rattle.notation.specs.Choice.{when◌then◌else◌}
 use Rattle.perlovasta.proofs.ChipIsController.{one-call, chip_is_controller}
 use Rattle.perlovasta.specs.ChipIsController.{job, replied, call_gives, rule_gives, record_after, calls_give, rules_give}
 use Rattle.perlovasta.specs.Job.{JobCall, request_report, tells}
@@ -46,7 +46,7 @@ module _ (m m' : List ℕ) (e : take 20 m ≡ take 20 m') where
   both_records : is_record m ≡ true → 88 ≤ length m' → is_record m' ≡ true
   unfolding is_record
   both_records there long =
-      if-false _ _ _ (le-ltb (length m') 88 long) ∙ sym same_kind ∙ sym (if-false _ _ _ (le-ltb (length m) 88 (record-long m there))) ∙ there
+      when-false _ _ _ (le-ltb (length m') 88 long) ∙ sym same_kind ∙ sym (when-false _ _ _ (le-ltb (length m) 88 (record-long m there))) ∙ there
 
   -- their records are alike but for the places
   decoded-alike : length (decoded m).buffer ≡ 68 → length (decoded m').buffer ≡ 68 → AlikeButForPlaces (decoded m) (decoded m')
@@ -67,8 +67,8 @@ module _ (m m' : List ℕ) (e : take 20 m ≡ take 20 m') where
   alike : is_record m ≡ true → is_record m' ≡ true → AlikeButForPlaces (record_of m) (record_of m')
   unfolding record_of
   alike there there' =
-      let here : record_of m ≡ decoded m = if-true _ _ _ there in
-      let here' : record_of m' ≡ decoded m' = if-true _ _ _ there' in
+      let here : record_of m ≡ decoded m = when-true _ _ _ there in
+      let here' : record_of m' ≡ decoded m' = when-true _ _ _ there' in
       subst (λ (d : Controller). AlikeButForPlaces d (record_of m')) (sym here)
       (subst (λ (d : Controller). AlikeButForPlaces (decoded m) d) (sym here')
       (decoded-alike (ap (λ (d : Controller). length d.buffer) (sym here) ∙ record-places m)
@@ -78,7 +78,7 @@ module _ (m m' : List ℕ) (e : take 20 m ≡ take 20 m') where
 in_numbers_lem : (d : Direction) (address : Address) (n : ℕ) (payload : List ℕ) (room places : ℕ) (script : List ℕ) (c : Controller) →
     request_report c (bit_of d) address.0 n payload room places script
     ≡ job_of (record { direction = d; address = address; n = n }) payload room places script c
-unfolding request_report bit_of direction_for if◌then◌else◌
+unfolding request_report bit_of direction_for when◌then◌else◌
 in_numbers_lem Write address n payload room places script c = refl
 in_numbers_lem Read address n payload room places script c = refl
 
@@ -105,7 +105,7 @@ abbrev Item-is : Controller → Item → Type 0
 Item-is c i = (rule_gives c (asked_of i) ≡ given (step i c).seen) × (record_after c (asked_of i) ≡ (step i c).next)
 
 item_is : (i : Item) (c : Controller) → Item-is c i
-unfolding asked_of rule_gives record_after packed group_of tells report_bytes if◌then◌else◌
+unfolding asked_of rule_gives record_after packed group_of tells report_bytes when◌then◌else◌
 item_is (run_job q) c = (ap tells (job_is q c), ap (λ (r : Report). r.result.next) (job_is q c))
 item_is (reset_pin argument) c = (refl, refl)
 item_is (indptr value) c = (refl, refl)

@@ -2,7 +2,7 @@
 use Rattle.std.specs.Prelude.{List, [], ◌∷◌, ◌++◌, ℕ, eqb}
 use Rattle.text.specs.Text.{decimal_of, listed}
 use Rattle.driver.specs.Run.{Result, Report as JobReport}
-use Rattle.notation.specs.Choice.{if◌then◌else◌}
+use Rattle.notation.specs.Choice.{when◌then◌else◌}
 
 -- The words, as the bytes of their letters.
 -- "answer "
@@ -39,7 +39,7 @@ number n = decimal_of 20 n
 
 -- "For 28 the first line ends as in ` refused 8`."
 unfoldable pub beside : ℕ → ℕ → List ℕ
-beside answer refused = if eqb answer 28 then refused_word ++ number refused else []
+beside answer refused = when eqb answer 28 then refused_word ++ number refused else []
 
 -- `answer 0 count 2 events 5`
 unfoldable pub first_line : Result → List ℕ

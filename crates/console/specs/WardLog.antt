@@ -6,7 +6,7 @@ use Rattle.address.specs.declared.matching.Match.{Match}
 use Rattle.address.specs.declared.number.Direction.TheVariants.{Write, Read}
 use Rattle.controller.specs.Condition.{match_on_bus}
 use Rattle.controller.specs.declared.record.Controller.{Controller}
-use Rattle.notation.specs.Choice.{if◌then◌else◌, ◌and◌, ◌or◌}
+use Rattle.notation.specs.Choice.{when◌then◌else◌, ◌and◌, ◌or◌}
 use Rattle.text.specs.Text.{hex_of}
 
 -- The words, as the bytes of their letters.
@@ -31,4 +31,4 @@ tells_call kind number refused = (eqb kind 2 and (eqb number 5 or eqb number 8))
 
 -- what the ward log notes of a group that the record c was given: of such an event what the match answers, of any other group nothing
 unfoldable pub ward_note : Controller → (kind number argument refused : ℕ) → List ℕ
-ward_note c kind number argument refused = if tells_call kind number refused then match_text (match_on_bus c argument) else []
+ward_note c kind number argument refused = when tells_call kind number refused then match_text (match_on_bus c argument) else []

@@ -14,7 +14,7 @@ use Rattle.control.specs.declared.turn.Turn.TheVariants.{Off, Host, Free, Busy, 
 use Rattle.control.specs.declared.turn.Turn.TheVariants.{Address, Send, Receive, SlaveReceive, SlaveSend, Stopping, Restarting}
 use Rattle.control.specs.declared.turn.Turn.{Turn}
 use Rattle.notation.proofs.Among.{has, every, same, among-has, keys_in}
-use Rattle.notation.specs.Choice.{among, if◌then◌else◌}
+use Rattle.notation.specs.Choice.{among, when◌then◌else◌}
 use Rattle.control.specs.contracts.turn.Turn.{the_type}
 
 pub tag_kind : (t : Turn) → tag_of the_type t ≡ kind t
@@ -52,7 +52,7 @@ at_turns ks t h v ls p = ap (λ (k : ℕ). among k ls) (sym (tag_kind t)) ∙ ke
 
 -- "Status is F8h exactly when SI is 0": out of Host it is F8h
 pub status-idle : (t : Turn) → among (kind t) (host ∷ []) ≡ false → status_of t ≡ 0xF8
-unfolding kind status_of among if◌then◌else◌
+unfolding kind status_of among when◌then◌else◌
 status-idle Off e = refl
 status-idle (Host s d) e = absurd (true≢false e)
 status-idle Free e = refl

@@ -2,7 +2,7 @@
 -- and 1 read 0". SI is no flag of its own: it is 1 exactly in Host.
 use Rattle.std.specs.Prelude.{Bool, ℕ, ◌+◌, ◌/◌, ◌%◌, eqb}
 use Rattle.control.specs.declared.flags.Control.{Control}
-use Rattle.notation.specs.Choice.{if◌then◌else◌}
+use Rattle.notation.specs.Choice.{when◌then◌else◌}
 
 -- the flags in a written byte
 unfoldable pub flags_of : ℕ → Control
@@ -16,7 +16,7 @@ flags_of value = record {
 
 -- a bit's weight in the byte, where it is set
 unfoldable pub weighs : Bool → ℕ → ℕ
-weighs bit weight = if bit then weight else 0
+weighs bit weight = when bit then weight else 0
 
 -- the byte that I2CCON reads
 unfoldable pub reads_as : Control → Bool → ℕ

@@ -3,7 +3,7 @@ use Rattle.std.specs.Prelude.{List, [], ◌∷◌, ℕ}
 use Rattle.control.specs.Turn.{faults}
 use Rattle.control.specs.declared.reason.Reason.TheVariants.{NoneYet, CountReached, Nack, Outside, ArbitrationLost, Fault, Reset}
 use Rattle.control.specs.declared.reason.Reason.{Reason}
-use Rattle.notation.specs.Choice.{if◌then◌else◌, among}
+use Rattle.notation.specs.Choice.{when◌then◌else◌, among}
 
 -- "Count reached: 18h, 28h, 40h, 50h, 80h, B8h, C8h, E0h."
 abbrev pub count_reached : List ℕ
@@ -24,11 +24,11 @@ arbitration_lost = 0x38 ∷ 0x68 ∷ 0xB0 ∷ 0xD8 ∷ []
 -- the reason that a status sets. "Fault: 00h, 70h, 78h." (`faults`, in Turn.antt); "All others .. none yet". (No event gives F8h.)
 unfoldable pub reason_of : ℕ → Reason
 reason_of status =
-    if among status count_reached then CountReached
-    else if among status nacked then Nack
-    else if among status ended_outside then Outside
-    else if among status arbitration_lost then ArbitrationLost
-    else if among status faults then Fault
+    when among status count_reached then CountReached
+    else when among status nacked then Nack
+    else when among status ended_outside then Outside
+    else when among status arbitration_lost then ArbitrationLost
+    else when among status faults then Fault
     else NoneYet
 
 -- the number that the library's log shows

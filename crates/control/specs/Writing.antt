@@ -10,13 +10,13 @@ use Rattle.control.specs.declared.turn.Turn.TheVariants.{Address, Send, Receive,
 use Rattle.control.specs.declared.turn.Turn.{Turn}
 use Rattle.control.specs.declared.writing.Response.TheVariants.{Next, Unlisted}
 use Rattle.control.specs.declared.writing.Response.{Response}
-use Rattle.notation.specs.Choice.{if◌then◌else◌, ◌or◌, among}
+use Rattle.notation.specs.Choice.{when◌then◌else◌, ◌or◌, among}
 
 -- 18h, 20h, 28h, 30h, 48h, 58h: "STA Restarting; STO Stopping; both Stopping", and `otherwise` where neither is set
 unfoldable pub end_or : Control → Response → Response
 end_or k otherwise =
-    if k.sto then Next Stopping
-    else if k.sta then Next Restarting
+    when k.sto then Next Stopping
+    else when k.sta then Next Restarting
     else otherwise
 
 -- A0h: "Free after a STOP, Listen after a START"
@@ -28,21 +28,21 @@ after_edge Start = Listen
 -- 38h" (document 02, request 2): the turn stays.
 unfoldable pub responds_at : ℕ → Edge → Control → Response
 responds_at status edge k =
-    if among status (0x08 ∷ 0x10 ∷ []) then (if k.mode then Unlisted else Next Address)
-    else if among status (0x18 ∷ 0x20 ∷ 0x28 ∷ 0x30 ∷ []) then end_or k (Next Send)
-    else if among status (0x40 ∷ 0x50 ∷ []) then (if k.sta or k.sto then Unlisted else Next Receive)
-    else if among status (0x48 ∷ 0x58 ∷ []) then end_or k Unlisted
-    else if among status (0x38 ∷ []) then Next (Host 0x38 edge)
-    else if among status (0x60 ∷ 0x68 ∷ 0x80 ∷ []) then Next (SlaveReceive Own)
-    else if among status (0xD0 ∷ 0xD8 ∷ 0xE0 ∷ []) then Next (SlaveReceive General)
-    else if among status (0x88 ∷ 0xC0 ∷ 0xC8 ∷ 0xE8 ∷ []) then Next Busy
-    else if among status (0xA0 ∷ []) then Next (after_edge edge)
-    else if among status (0xA8 ∷ 0xB0 ∷ 0xB8 ∷ []) then Next SlaveSend
+    when among status (0x08 ∷ 0x10 ∷ []) then (when k.mode then Unlisted else Next Address)
+    else when among status (0x18 ∷ 0x20 ∷ 0x28 ∷ 0x30 ∷ []) then end_or k (Next Send)
+    else when among status (0x40 ∷ 0x50 ∷ []) then (when k.sta or k.sto then Unlisted else Next Receive)
+    else when among status (0x48 ∷ 0x58 ∷ []) then end_or k Unlisted
+    else when among status (0x38 ∷ []) then Next (Host 0x38 edge)
+    else when among status (0x60 ∷ 0x68 ∷ 0x80 ∷ []) then Next (SlaveReceive Own)
+    else when among status (0xD0 ∷ 0xD8 ∷ 0xE0 ∷ []) then Next (SlaveReceive General)
+    else when among status (0x88 ∷ 0xC0 ∷ 0xC8 ∷ 0xE8 ∷ []) then Next Busy
+    else when among status (0xA0 ∷ []) then Next (after_edge edge)
+    else when among status (0xA8 ∷ 0xB0 ∷ 0xB8 ∷ []) then Next SlaveSend
     else Unlisted
 
 -- "ENSIO 1 from Off leads to Free. Otherwise, by the status before it"; "F8h: the turn stays"
 unfoldable pub response : Turn → Control → Response
 response turn k =
-    if waits turn (off ∷ []) then Next Free
-    else if waits turn (host ∷ []) then responds_at (status_of turn) (edge_of turn) k
+    when waits turn (off ∷ []) then Next Free
+    else when waits turn (host ∷ []) then responds_at (status_of turn) (edge_of turn) k
     else Next turn

@@ -9,8 +9,8 @@ use Rattle.control.specs.Turn.{kind, data_turns}
 use Rattle.controller.specs.Record.{byte_count, host_sound, move_sound, sound}
 use Rattle.controller.specs.Transfer.{cursor}
 use Rattle.controller.specs.declared.record.Controller.{Controller}
-use Rattle.notation.proofs.Cases.{if-true, if-false, and-true, and_left, and_right}
-use Rattle.notation.specs.Choice.{if◌then◌else◌, ◌and◌, among}
+use Rattle.notation.proofs.Cases.{when-true, when-false, and-true, and_left, and_right}
+use Rattle.notation.specs.Choice.{when◌then◌else◌, ◌and◌, among}
 
 pub record Sound (c : Controller) : Type 0 where
   pub pointer : c.pointer ≤ 7
@@ -45,23 +45,23 @@ whole c s =
 -- in a turn that moves data, there is a place for the next byte
 pub moving : (c : Controller) → sound c ≡ true → among (kind c.turn) data_turns ≡ true → c.moved < 68
 unfolding move_sound
-moving c e t = go c.control.mode (sym (if-true (among (kind c.turn) data_turns) _ _ t) ∙ (parts c e).move)
+moving c e t = go c.control.mode (sym (when-true (among (kind c.turn) data_turns) _ _ t) ∙ (parts c e).move)
   where
-    go : (mode : Bool) → (if mode then ltb c.moved (byte_count c) and leb (byte_count c) 68 else eqb c.moved 0) ≡ true → c.moved < 68
+    go : (mode : Bool) → (when mode then ltb c.moved (byte_count c) and leb (byte_count c) 68 else eqb c.moved 0) ≡ true → c.moved < 68
     go true h =
-        let g = sym (if-true true (ltb c.moved (byte_count c) and leb (byte_count c) 68) (eqb c.moved 0) refl) ∙ h in
+        let g = sym (when-true true (ltb c.moved (byte_count c) and leb (byte_count c) 68) (eqb c.moved 0) refl) ∙ h in
         let low = ltb-true c.moved (byte_count c) (and_left _ _ g) in
         let high = leb-true (byte_count c) 68 (and_right (ltb c.moved (byte_count c)) _ g) in
         omega arith
     go false h =
-        let zero = eqb-true c.moved 0 (sym (if-false false (ltb c.moved (byte_count c) and leb (byte_count c) 68) (eqb c.moved 0) refl) ∙ h) in
+        let zero = eqb-true c.moved 0 (sym (when-false false (ltb c.moved (byte_count c) and leb (byte_count c) 68) (eqb c.moved 0) refl) ∙ h) in
         omega arith
 
 -- and the cursor is that place, or 0
 pub cursor-below : (c : Controller) → c.moved < 68 → cursor c < 68
-unfolding cursor if◌then◌else◌
+unfolding cursor when◌then◌else◌
 cursor-below c h = go c.control.mode
   where
-    go : (mode : Bool) → (if mode then c.moved else 0) < 68
+    go : (mode : Bool) → (when mode then c.moved else 0) < 68
     go true = h
     go false = omega arith

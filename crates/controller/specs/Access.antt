@@ -8,7 +8,7 @@ use Rattle.controller.specs.Record.{interrupts, sound}
 use Rattle.controller.specs.Registers.{write_pointer, read_data, write_data, at_pointer, write_at_pointer}
 use Rattle.controller.specs.Reply.{Outcome, refuses, accepts}
 use Rattle.controller.specs.declared.record.Controller.{Controller}
-use Rattle.notation.specs.Choice.{if◌then◌else◌, ◌and◌, ◌or◌}
+use Rattle.notation.specs.Choice.{when◌then◌else◌, ◌and◌, ◌or◌}
 
 -- register 2, with the pointer at this register
 unfoldable pub indirect_at : Controller → ℕ → ℕ → Bool
@@ -26,33 +26,33 @@ bars_write c register = not (eqb register 0 or indirect_at c register 5) and wai
 -- Refusal 9: "register 2: .. or read with pointer 05h".
 unfoldable pub read_sound : Controller → ℕ → Outcome
 read_sound c register =
-    if indirect_at c register 5 then refuses c 9
-    else if bars_read c register then refuses c 3
-    else if eqb register 0 then accepts c (status_of c.turn)
-    else if eqb register 1 then read_data c
-    else if eqb register 2 then accepts c (at_pointer c)
+    when indirect_at c register 5 then refuses c 9
+    else when bars_read c register then refuses c 3
+    else when eqb register 0 then accepts c (status_of c.turn)
+    else when eqb register 1 then read_data c
+    else when eqb register 2 then accepts c (at_pointer c)
     else accepts c (reads_as c.control (interrupts c))
 
 -- refusal 1: "register over 3"; refusal 10: "the record isn't sound"
 unfoldable pub read_of : Controller → ℕ → Outcome
 read_of c register =
-    if ltb 3 register then refuses c 1
-    else if sound c then read_sound c register
+    when ltb 3 register then refuses c 1
+    else when sound c then read_sound c register
     else refuses c 10
 
 -- "Address 0: .. write INDPTR". Refusal 9: "register 2: write with pointer 07h".
 unfoldable pub write_sound : Controller → ℕ → ℕ → Outcome
 write_sound c register value =
-    if indirect_at c register 7 then refuses c 9
-    else if bars_write c register then refuses c 3
-    else if eqb register 0 then write_pointer c value
-    else if eqb register 1 then write_data c value
-    else if eqb register 2 then write_at_pointer c value
+    when indirect_at c register 7 then refuses c 9
+    else when bars_write c register then refuses c 3
+    else when eqb register 0 then write_pointer c value
+    else when eqb register 1 then write_data c value
+    else when eqb register 2 then write_at_pointer c value
     else write_control c value
 
 -- refusals 1 and 10, as for a read
 unfoldable pub write_of : Controller → ℕ → ℕ → Outcome
 write_of c register value =
-    if ltb 3 register then refuses c 1
-    else if sound c then write_sound c register value
+    when ltb 3 register then refuses c 1
+    else when sound c then write_sound c register value
     else refuses c 10

@@ -13,7 +13,7 @@ use Rattle.controller.specs.Record.{place, timeout_enabled}
 use Rattle.controller.specs.Setters.{with_control}
 use Rattle.controller.specs.Reply.{Outcome, ack, nack, no_value, refuses, accepts, waits_for, interrupts_at, gives, changes_status}
 use Rattle.controller.specs.declared.record.Controller.{Controller}
-use Rattle.notation.specs.Choice.{if◌then◌else◌, ◌and◌, ◌or◌}
+use Rattle.notation.specs.Choice.{when◌then◌else◌, ◌and◌, ◌or◌}
 
 -- "Free with STA", waiting to send a START
 abbrev pub wants_bus : Controller → Bool
@@ -22,24 +22,24 @@ wants_bus c = waits c.turn (free ∷ []) and c.control.sta
 -- 1. "Own START. Free with STA: 08h. Restarting: 10h."
 unfoldable pub own_start : Controller → Outcome
 own_start c =
-    if wants_bus c then gives c 0x08 no_value
-    else if waits c.turn (restarting ∷ []) then gives c 0x10 no_value
+    when wants_bus c then gives c 0x08 no_value
+    else when waits c.turn (restarting ∷ []) then gives c 0x10 no_value
     else refuses c 8
 
 -- 2. "Another's START. Free, Busy: Listen. Restarting: 10h. SlaveReceive: A0h."
 unfoldable pub other_start : Controller → Outcome
 other_start c =
-    if waits c.turn (free ∷ busy ∷ []) then waits_for c Listen no_value
-    else if waits c.turn (restarting ∷ []) then gives c 0x10 no_value
-    else if waits c.turn (slave_receive ∷ []) then interrupts_at c 0xA0 Start no_value
+    when waits c.turn (free ∷ busy ∷ []) then waits_for c Listen no_value
+    else when waits c.turn (restarting ∷ []) then gives c 0x10 no_value
+    else when waits c.turn (slave_receive ∷ []) then interrupts_at c 0xA0 Start no_value
     else refuses c 8
 
 -- 3. "Another's STOP. Busy: Free. SlaveReceive: A0h."; at 38h it "leads to Free with F8h" (document 02, request 2)
 unfoldable pub other_stop : Controller → Outcome
 other_stop c =
-    if waits c.turn (busy ∷ []) then waits_for c Free no_value
-    else if waits c.turn (slave_receive ∷ []) then interrupts_at c 0xA0 Stop no_value
-    else if at38h c.turn then waits_for c Free no_value
+    when waits c.turn (busy ∷ []) then waits_for c Free no_value
+    else when waits c.turn (slave_receive ∷ []) then interrupts_at c 0xA0 Stop no_value
+    else when at38h c.turn then waits_for c Free no_value
     else refuses c 8
 
 -- STO 0, the other flags as they were
@@ -49,7 +49,7 @@ without_stop k = record { aa = k.aa; ensio = k.ensio; sta = k.sta; sto = false; 
 -- 4. "Own STOP. Stopping: Free, STO 0."
 unfoldable pub own_stop : Controller → Outcome
 own_stop c =
-    if waits c.turn (stopping ∷ []) then waits_for (with_control c (without_stop c.control)) Free no_value
+    when waits c.turn (stopping ∷ []) then waits_for (with_control c (without_stop c.control)) Free no_value
     else refuses c 8
 
 -- what the match answers for an address byte on the bus: what it calls, and its address
@@ -69,7 +69,7 @@ addressed c Nothing = waits_for c Busy nack
 
 -- 5. "Address byte, in Listen."
 unfoldable pub address_byte : Controller → ℕ → Outcome
-address_byte c byte = if waits c.turn (listen ∷ []) then addressed c (matches c byte) else refuses c 8
+address_byte c byte = when waits c.turn (listen ∷ []) then addressed c (matches c byte) else refuses c 8
 
 -- 8. the codes: "Matched as in 5 it gives 68h, B0h or D8h, else 38h"; ACK and NACK as in 5
 unfoldable pub outbid : Controller → Match → Outcome
@@ -81,32 +81,32 @@ outbid c Nothing = gives c 0x38 nack
 -- 8. "Arbitration lost in Address, argument the winner's byte. Expected only if it is smaller than ours"
 unfoldable pub address_lost : Controller → ℕ → Outcome
 address_lost c byte =
-    if waits c.turn (address ∷ []) and ltb byte (place c 0) then outbid c (matches c byte) else refuses c 8
+    when waits c.turn (address ∷ []) and ltb byte (place c 0) then outbid c (matches c byte) else refuses c 8
 
 -- 9. "Arbitration lost in Send or Receive: 38h."
 unfoldable pub data_lost : Controller → Outcome
-data_lost c = if waits c.turn (send ∷ receive ∷ []) then gives c 0x38 no_value else refuses c 8
+data_lost c = when waits c.turn (send ∷ receive ∷ []) then gives c 0x38 no_value else refuses c 8
 
 -- 10. "START or STOP at an illegal place. Wire turns: 00h. Free, Busy, Listen: accepted, no change"
 unfoldable pub illegal_edge : Controller → Outcome
 illegal_edge c =
-    if waits c.turn wire_turns then gives c 0x00 no_value
-    else if waits c.turn (free ∷ busy ∷ listen ∷ []) then accepts c no_value
+    when waits c.turn wire_turns then gives c 0x00 no_value
+    else when waits c.turn (free ∷ busy ∷ listen ∷ []) then accepts c no_value
     else refuses c 8
 
 -- 11. "SDA held after nine clocks. Free with STA, or Restarting: 70h."
 unfoldable pub data_held : Controller → Outcome
-data_held c = if wants_bus c or waits c.turn (restarting ∷ []) then gives c 0x70 no_value else refuses c 8
+data_held c = when wants_bus c or waits c.turn (restarting ∷ []) then gives c 0x70 no_value else refuses c 8
 
 -- 12. "SCL low past the time-out, TE 1: 78h"; with SI 0 and not in Off. At 38h "event 12 with TE 1 gives 78h" (document 02, request 2)
 unfoldable pub clock_held : Controller → Outcome
 clock_held c =
-    if at38h c.turn and timeout_enabled c then changes_status c 0x78
-    else if waits c.turn (off ∷ host ∷ []) then refuses c 8
-    else if timeout_enabled c then gives c 0x78 no_value
+    when at38h c.turn and timeout_enabled c then changes_status c 0x78
+    else when waits c.turn (off ∷ host ∷ []) then refuses c 8
+    else when timeout_enabled c then gives c 0x78 no_value
     else refuses c 8
 
 -- 13. "Idle past the time-out, TE and STA 1, in Busy or Listen: 08h."
 unfoldable pub idle : Controller → Outcome
 idle c =
-    if timeout_enabled c and c.control.sta and waits c.turn (busy ∷ listen ∷ []) then gives c 0x08 no_value else refuses c 8
+    when timeout_enabled c and c.control.sta and waits c.turn (busy ∷ listen ∷ []) then gives c 0x08 no_value else refuses c 8

@@ -13,7 +13,7 @@ use Rattle.controller.specs.Setters.{with_hand, with_moved, with_control, with_t
 use Rattle.controller.specs.Registers.{wrote}
 use Rattle.controller.specs.Reply.{Outcome, refuses}
 use Rattle.controller.specs.declared.record.Controller.{Controller}
-use Rattle.notation.specs.Choice.{if◌then◌else◌, ◌and◌, ◌or◌, among}
+use Rattle.notation.specs.Choice.{when◌then◌else◌, ◌and◌, ◌or◌, among}
 
 -- "stores AA, ENSIO, STA, MODE. STO is stored only where it leads to Stopping"
 unfoldable pub keeps : Control → Control → Turn → Control
@@ -21,7 +21,7 @@ keeps old k turn = record {
   aa = k.aa;
   ensio = k.ensio;
   sta = k.sta;
-  sto = if waits turn (stopping ∷ []) then k.sto else old.sto;
+  sto = when waits turn (stopping ∷ []) then k.sto else old.sto;
   mode = k.mode;
 }
 
@@ -39,7 +39,7 @@ bad_count c k turn = k.mode and waits turn data_turns and (eqb (byte_count c) 0 
 -- with ENSIO 1: refusals 5 and 6, or the next turn
 unfoldable pub enabled : Controller → Control → Response → Outcome
 enabled c k Unlisted = refuses c 5
-enabled c k (Next turn) = if bad_count c k turn then refuses c 6 else controlled c k turn
+enabled c k (Next turn) = when bad_count c k turn then refuses c 6 else controlled c k turn
 
 -- "ENSIO 0 leads to Off with STA 0"
 abbrev pub without_start : Control → Control
@@ -48,8 +48,8 @@ without_start k = record { aa = k.aa; ensio = k.ensio; sta = false; sto = k.sto;
 -- refusal 4: "I2CCON write at 00h, 70h or 78h"
 unfoldable pub write_flags : Controller → Control → Outcome
 write_flags c k =
-    if among (status_of c.turn) faults then refuses c 4
-    else if k.ensio then enabled c k (response c.turn k)
+    when among (status_of c.turn) faults then refuses c 4
+    else when k.ensio then enabled c k (response c.turn k)
     else controlled c (without_start k) Off
 
 -- "3: I2CCON", written with any byte

@@ -3,7 +3,7 @@ use Rattle.std.specs.Prelude.{Bool, true, List, [], ◌∷◌, ℕ, ◌/◌, ◌
 use Rattle.control.specs.Turn.{host, data_turns, waits, status_of}
 use Rattle.control.specs.declared.turn.Turn.{Turn}
 use Rattle.controller.specs.declared.record.Controller.{Controller}
-use Rattle.notation.specs.Choice.{if◌then◌else◌, ◌and◌, among}
+use Rattle.notation.specs.Choice.{when◌then◌else◌, ◌and◌, among}
 
 -- "The buffer holds 68 bytes, numbered 0 to 67": the byte at a place
 abbrev pub place : Controller → ℕ → ℕ
@@ -33,13 +33,13 @@ given_statuses =
 
 -- a turn that is not Host has no status to ask about
 unfoldable pub host_sound : Turn → Bool
-host_sound turn = if waits turn (host ∷ []) then among (status_of turn) given_statuses else true
+host_sound turn = when waits turn (host ∷ []) then among (status_of turn) given_statuses else true
 
 -- "in Send, Receive, SlaveReceive and SlaveSend moved is 0 with MODE 0, and with MODE 1 below BC, BC at most 68"
 unfoldable pub move_sound : Controller → Bool
 move_sound c =
-    if waits c.turn data_turns
-    then (if c.control.mode then ltb c.moved (byte_count c) and leb (byte_count c) 68 else eqb c.moved 0)
+    when waits c.turn data_turns
+    then (when c.control.mode then ltb c.moved (byte_count c) and leb (byte_count c) 68 else eqb c.moved 0)
     else true
 
 -- "A record is sound when the pointer is at most 7, hand and moved at most 68, I2CMODE at most 3", and the two above hold

@@ -7,7 +7,7 @@ use Rattle.controller.specs.Setters.{with_armed}
 use Rattle.controller.specs.Reply.{Outcome, no_value, accepts}
 use Rattle.controller.specs.declared.record.Controller.{Controller}
 use Rattle.controller.specs.declared.record.Registers.{Registers}
-use Rattle.notation.specs.Choice.{if◌then◌else◌, ◌and◌}
+use Rattle.notation.specs.Choice.{when◌then◌else◌, ◌and◌}
 
 -- "I2CCOUNT 01h, I2CADR E0h, 02h 9Dh, 03h 86h, I2CTO FFh, I2CMODE 00h"
 abbrev pub reset_registers : Registers
@@ -42,5 +42,5 @@ completes_reset c value = c.armed and eqb value 0x5A
 -- I2CPRESET: "A5h written to I2CPRESET arms it .. Any other accepted write disarms, but A5h to I2CPRESET arms again"
 unfoldable pub write_preset : Controller → ℕ → Outcome
 write_preset c value =
-    if completes_reset c value then accepts (reset c) no_value
+    when completes_reset c value then accepts (reset c) no_value
     else accepts (with_armed c (eqb value 0xA5)) no_value

@@ -8,7 +8,7 @@ use lib.ListN.{length, set, get_or}
 use lib.Seq.{sets, set-get_or, get_or-set_other}
 use Rattle.notation.proofs.Laid.{get_d_before, laid_sets}
 use Rattle.dock.specs.StateBytes.{marked, stand_of}
-use Rattle.notation.proofs.Cases.{if-true}
+use Rattle.notation.proofs.Cases.{when-true}
 use Rattle.notation.specs.Choice.{◌and◌}
 use Rattle.notation.specs.Overlay.{laid, laid_at}
 use Rattle.port.specs.declared.stand.Stand.{Stand}
@@ -21,7 +21,7 @@ FixedBytes s m = (marked m ≡ true) × (get_or m 4 0 ≡ s.job.address.0) × (g
 pub fixed_marked : (s : Stand) (m : List ℕ) → marked m ≡ true → s.job ≡ (stand_of m).job → FixedBytes s m
 unfolding stand_of
 fixed_marked s m e same =
-    let job = same ∙ ap (λ (t : Stand). t.job) (if-true _ _ _ e) in
+    let job = same ∙ ap (λ (t : Stand). t.job) (when-true _ _ _ e) in
     (e, sym (ap (λ (j : Job). j.address.0) job), sym (ap (λ (j : Job). j.n) job))
 
 -- whatever is laid behind them

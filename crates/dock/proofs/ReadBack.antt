@@ -17,8 +17,8 @@ use Rattle.dock.specs.Calls.{StepCall, TakeCall, too_short, telling, next_call, 
 use Rattle.dock.specs.ReadBack.{ReadBack, state_after, CallsInTurn}
 use Rattle.dock.specs.ReadBack.{Between, goes_on, gives_up, takes_again, state_between, state_through, TakenOnce}
 use Rattle.dock.specs.StateBytes.{bit, head_bytes, bytes_of, marked, stand_of, port_of}
-use Rattle.notation.proofs.Cases.{if-true, if-false}
-use Rattle.notation.specs.Choice.{if◌then◌else◌, ◌and◌}
+use Rattle.notation.proofs.Cases.{when-true, when-false}
+use Rattle.notation.specs.Choice.{when◌then◌else◌, ◌and◌}
 use Rattle.notation.specs.Overlay.{laid}
 use Rattle.port.specs.Begin.{give_up_of}
 use Rattle.port.specs.HandUp.{Taken, nothing, take_of}
@@ -32,7 +32,7 @@ use Rattle.port.specs.declared.stand.Stand.{Stand}
 use Rattle.requests.specs.Jobs.{direction_for}
 
 stage_back : (x : Stage) → stage_for (stage_number x) ≡ x
-unfolding stage_for stage_number if◌then◌else◌
+unfolding stage_for stage_number when◌then◌else◌
 stage_back Over = refl
 stage_back Control = refl
 stage_back Status = refl
@@ -46,23 +46,23 @@ stage_back Pausing = refl
 stage_back Recheck = refl
 
 direction-back : (d : Direction) → direction_for (bit_of d) ≡ d
-unfolding direction_for bit_of if◌then◌else◌
+unfolding direction_for bit_of when◌then◌else◌
 direction-back Write = refl
 direction-back Read = refl
 
 bit-back : (b : Bool) → eqb (bit b) 1 ≡ b
-unfolding bit if◌then◌else◌
+unfolding bit when◌then◌else◌
 bit-back true = refl
 bit-back false = refl
 
 bit-set : (b : Bool) → not (eqb (bit b) 0) ≡ b
-unfolding bit if◌then◌else◌
+unfolding bit when◌then◌else◌
 bit-set true = refl
 bit-set false = refl
 
 -- the head, with whatever follows it
 stand-back : (s : Stand) (rest : List ℕ) → stand_of (head_bytes s ++ rest) ≡ s
-unfolding stand_of marked head_bytes if◌then◌else◌ ◌and◌
+unfolding stand_of marked head_bytes when◌then◌else◌ ◌and◌
 stand-back s rest = rw (stage_back s.stage, direction-back s.job.direction, bit-back s.due, bit-set s.stale) refl
 
 size : (p : Port) → length p.payload ≡ 68 → length p.fetched ≡ 68 → length (bytes_of p) ≡ 148
@@ -97,7 +97,7 @@ unfolding next_call telling too_short step port_of
 one-call m value l =
     let p = port_of m in
     let fetched = length-set p.fetched _ value ∙ part_length 80 m (omega (arith, l)) in
-    ap (λ (c : StepCall). port_of (laid c.state m)) (if-false _ _ _ (le-ltb (length m) 148 l))
+    ap (λ (c : StepCall). port_of (laid c.state m)) (when-false _ _ _ (le-ltb (length m) 148 l))
     ∙ read_back_lem (step p value) m (part_length 12 m (omega (arith, l))) fetched l
 
 pub calls_in_turn : CallsInTurn
@@ -117,17 +117,17 @@ record Spent (m : List ℕ) : Type 0 where
 
 take_is : (m : List ℕ) (room : ℕ) → 148 ≤ length m → take_call m room ≡ taking (port_of m) (taken (port_of m) room)
 unfolding take_call too_short
-take_is m room l = if-false _ _ _ (le-ltb (length m) 148 l)
+take_is m room l = when-false _ _ _ (le-ltb (length m) 148 l)
 
 -- so a take gives its answer and nothing else
 spent_take : (m : List ℕ) (room : ℕ) (s : Spent m) → take_call m room ≡ record { answer = s.answer; handed = []; state = [] }
 unfolding taking take_of stage_number
 spent_take m room s =
     let nothing-there : taken (port_of m) room ≡ nothing s.answer =
-    ap (λ (x : Stand). take_of x (port_of m).fetched room) s.stand_is ∙ if-false _ _ _ refl ∙ if-true _ _ _ (ap not s.other) in
+    ap (λ (x : Stand). take_of x (port_of m).fetched room) s.stand_is ∙ when-false _ _ _ refl ∙ when-true _ _ _ (ap not s.other) in
     take_is m room s.long
     ∙ ap (taking (port_of m)) nothing-there
-    ∙ ap (λ (xs : List ℕ). record { answer = s.answer; handed = []; state = xs }) (if-false _ _ _ s.other)
+    ∙ ap (λ (xs : List ℕ). record { answer = s.answer; handed = []; state = xs }) (when-false _ _ _ s.other)
 
 -- a port that is laid there
 spent_laid : (p : Port) (m : List ℕ) (answer : ℕ) (stale : Bool) → p.stand ≡ broken_off answer stale → eqb answer 0 ≡ false → length p.payload ≡ 68 →
@@ -150,7 +150,7 @@ spent_between m (goes_on value) s =
     }
 spent_between m gives_up s =
     let l = s.long in
-    let call = if-false _ _ _ (le-ltb (length m) 148 l) in
+    let call = when-false _ _ _ (le-ltb (length m) 148 l) in
     subst Spent (sym (ap (λ (c : StepCall). laid c.state m) call))
     (spent_laid (given_up (port_of m)) m 27 true refl refl (part_length 12 m (omega (arith, l))) (part_length 80 m (omega (arith, l))) l)
 spent_between m (takes_again room) s = subst Spent (sym (ap (λ (c : TakeCall). laid c.state m) (spent_take m room s))) s
@@ -167,7 +167,7 @@ taken_once m xs room again l zero =
     let p = port_of m in
     let first = take_is m room l in
     let done = eq-eqb _ 0 (sym (ap (λ (c : TakeCall). c.answer) first) ∙ zero) in
-    let left = ap (λ (c : TakeCall). c.state) first ∙ if-true _ _ _ done in
+    let left = ap (λ (c : TakeCall). c.state) first ∙ when-true _ _ _ done in
     let spent = subst Spent (sym (ap (λ (ys : List ℕ). laid ys m) left))
     (spent_laid (emptied p) m 21 p.stand.stale refl refl (part_length 12 m (omega (arith, l))) (padded-length []) l) in
     let after = spent_through (laid (take_call m room).state m) xs spent in

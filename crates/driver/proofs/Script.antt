@@ -18,8 +18,8 @@ use Rattle.notation.proofs.Lists.{drop-one}
 use Rattle.driver.specs.Run.{Run, closes, breaks, sending, taking, run}
 use Rattle.notation.specs.Overlay.{laid, laid_at}
 use Rattle.answer.specs.declared.ending.Ending.TheVariants.{Unfinished, Refused}
-use Rattle.notation.proofs.Cases.{if-true, if-false}
-use Rattle.notation.specs.Choice.{if◌then◌else◌}
+use Rattle.notation.proofs.Cases.{when-true, when-false}
+use Rattle.notation.specs.Choice.{when◌then◌else◌}
 use Rattle.service.specs.Act.{ends, follows}
 use Rattle.service.specs.Progress.{reaching}
 use Rattle.service.specs.Serve.{Table, serve}
@@ -63,15 +63,15 @@ ended {left} {whole} {sent} {out} q e l =
 
 -- one byte more is sent, and one less is left
 one_less : (b : Bool) (value : ℕ) (xs : List ℕ) (sent : ℕ) →
-    (if b then sent + 1 else sent) + length xs ≡ sent + length (if b then value ∷ xs else xs)
-unfolding if◌then◌else◌
+    (when b then sent + 1 else sent) + length xs ≡ sent + length (when b then value ∷ xs else xs)
+unfolding when◌then◌else◌
 one_less true value xs sent = omega arith
 one_less false value xs sent = refl
 
 -- a pair is taken, and its byte noted
 pub passes : {left rest whole : Run} {sent sent' : ℕ} {out out' lent : List ℕ} (event value : ℕ) → left ≡ sending event value rest →
-    sent' ≡ (if eqb event 6 then sent + 1 else sent) →
-    ((later : List ℕ) → laid_at sent' later out' ≡ laid_at sent (if eqb event 6 then value ∷ later else later) out) →
+    sent' ≡ (when eqb event 6 then sent + 1 else sent) →
+    ((later : List ℕ) → laid_at sent' later out' ≡ laid_at sent (when eqb event 6 then value ∷ later else later) out) →
     Leads left whole sent out lent → Leads rest whole sent' out' lent
 unfolding sending
 passes {left} {rest} {whole} {sent} {sent'} {out} event value e next noted l = record {
@@ -84,8 +84,8 @@ passes {left} {rest} {whole} {sent} {sent'} {out} event value e next noted l = r
 }
 
 -- so no more bytes are sent than pairs taken
-pub at_most_one : (b : Bool) (sent sent' i : ℕ) → sent' ≡ (if b then sent + 1 else sent) → sent ≤ i → sent' ≤ i + 2
-unfolding if◌then◌else◌
+pub at_most_one : (b : Bool) (sent sent' i : ℕ) → sent' ≡ (when b then sent + 1 else sent) → sent ≤ i → sent' ≤ i + 2
+unfolding when◌then◌else◌
 at_most_one true sent sent' i e h = omega (arith, e, h)
 at_most_one false sent sent' i e h = omega (arith, e, h)
 
@@ -96,12 +96,12 @@ reached p events e = rw (sym e)
 
 -- what comes after a pair that was served
 abbrev after : Table → Progress → List ℕ → Run
-after table q rest = if q.over then closes q else run table q rest
+after table q rest = when q.over then closes q else run table q rest
 
 -- what a pair makes of the run, by the controller's answer
 abbrev pair_of : Table → Progress → ℕ → List ℕ → Outcome → Run
 pair_of table p event rest o =
-    if eqb o.refused 0
+    when eqb o.refused 0
     then sending event o.value (after table (serve table event (taking p o.next)) rest)
     else breaks p 28 o.refused
 
@@ -153,18 +153,18 @@ module _ (table : Table) (p : Progress) (script : List ℕ) (i : ℕ) where
     pub refused : (why : Refusal) → o.refused ≡ refusal_number why → run table p (drop i script) ≡ closes (follows (ends (Refused why)) p)
     unfolding closes breaks follows
     refused why r =
-        pair ∙ if-false _ _ _ (ap (λ (n : ℕ). eqb n 0) r ∙ refusal_not_0 why) ∙ ap (breaks p 28) r
+        pair ∙ when-false _ _ _ (ap (λ (n : ℕ). eqb n 0) r ∙ refusal_not_0 why) ∙ ap (breaks p 28) r
 
     -- it accepted the event with this value, and the driver did its work
     module _ (a : o.refused ≡ 0) (value : ℕ) (v : value ≡ o.value) (q : Progress) (s : q ≡ serve table (get_or script i 0) (taking p o.next)) where
       taken : run table p (drop i script) ≡ sending (get_or script i 0) value (after table q (drop (i + 2) script))
       taken =
-          pair ∙ if-true _ _ _ (ap (λ (n : ℕ). eqb n 0) a)
+          pair ∙ when-true _ _ _ (ap (λ (n : ℕ). eqb n 0) a)
           ∙ ap (λ (t : Progress). sending (get_or script i 0) o.value (after table t (drop (i + 2) script))) (sym s)
           ∙ ap (λ (n : ℕ). sending (get_or script i 0) n (after table q (drop (i + 2) script))) (sym v)
 
       pub over : q.over ≡ true → run table p (drop i script) ≡ sending (get_or script i 0) value (closes q)
-      over over-now = taken ∙ ap (λ (t : Run). sending (get_or script i 0) value t) (if-true _ _ _ over-now)
+      over over-now = taken ∙ ap (λ (t : Run). sending (get_or script i 0) value t) (when-true _ _ _ over-now)
 
       -- (the run goes on from t, which is that progress)
       pub on : q.over ≡ false → {t : Progress} → t ≡ q →
@@ -172,4 +172,4 @@ module _ (table : Table) (p : Progress) (script : List ℕ) (i : ℕ) where
       on lasts {t} is =
           taken
           ∙ ap (λ (r : Run). sending (get_or script i 0) value r)
-          (if-false _ _ _ lasts ∙ ap (λ (u : Progress). run table u (drop (i + 2) script)) (sym is))
+          (when-false _ _ _ lasts ∙ ap (λ (u : Progress). run table u (drop (i + 2) script)) (sym is))

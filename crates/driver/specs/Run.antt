@@ -7,7 +7,7 @@ use Rattle.answer.specs.Ending.{number_of, beside_of}
 use Rattle.answer.specs.declared.ending.Ending.{Ending}
 use Rattle.driver.specs.declared.result.Ended.{Ended}
 use Rattle.driver.specs.declared.result.JobResult.{JobResult}
-use Rattle.notation.specs.Choice.{if◌then◌else◌, ◌and◌}
+use Rattle.notation.specs.Choice.{when◌then◌else◌, ◌and◌}
 use Rattle.service.specs.JobSteps.{begins}
 use Rattle.service.specs.JobTable.{job_table}
 use Rattle.service.specs.Progress.{with_record, with_events}
@@ -74,7 +74,7 @@ unfoldable pub sending : ℕ → ℕ → Run → Run
 sending event value r = record {
   result = r.result;
   fetched = r.fetched;
-  sent = if eqb event 6 then value ∷ r.sent else r.sent;
+  sent = when eqb event 6 then value ∷ r.sent else r.sent;
 }
 
 -- a pair is taken: the record after the event, and one event more used
@@ -89,8 +89,8 @@ run table p (event ∷ []) = breaks p 27 0
 run table p (event ∷ argument ∷ rest) =
     let o = event_of p.controller event argument in
     let q = serve table event (taking p o.next) in
-    if eqb o.refused 0
-    then sending event o.value (if q.over then closes q else run table q rest)
+    when eqb o.refused 0
+    then sending event o.value (when q.over then closes q else run table q rest)
     else breaks p 28 o.refused
 
 -- What a job gives: its result, "bytes sent and bytes handed up, both in order".
@@ -101,7 +101,7 @@ pub record Report : Type 0 where
 
 -- Handed up (document 01's term): "the destination's first n bytes for answer 0 of a read, else none". (R is 1 for a read.)
 unfoldable pub hands_up : Job → ℕ → List ℕ → List ℕ
-hands_up job answer fetched = if eqb answer 0 and eqb (bit_of job.direction) 1 then take job.n fetched else []
+hands_up job answer fetched = when eqb answer 0 and eqb (bit_of job.direction) 1 then take job.n fetched else []
 
 unfoldable pub reports : Job → Run → Report
 reports job r = record { result = r.result; sent = r.sent; handed = hands_up job r.result.answer r.fetched }
@@ -117,6 +117,6 @@ declines c answer = record {
 -- A job: kind, address and n; the data; the lengths of destination and out record; the script. "21 comes before 22".
 unfoldable pub job_of : Job → List ℕ → ℕ → ℕ → List ℕ → Controller → Report
 job_of job payload destination_length out_length script c =
-    if malformed job (length payload) destination_length out_length (length script) then declines c 21
-    else if ready c then reports job (run (job_table job payload) (starts (begins job) c) script)
+    when malformed job (length payload) destination_length out_length (length script) then declines c 21
+    else when ready c then reports job (run (job_table job payload) (starts (begins job) c) script)
     else declines c 22

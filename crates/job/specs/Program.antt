@@ -3,7 +3,7 @@ use Rattle.std.specs.Prelude.{Bool, List, ℕ, ◌+◌, eqb, ltb, length, get_or
 use Rattle.console.specs.JobText.{report_text}
 use Rattle.driver.specs.Run.{Report, declines, job_of}
 use Rattle.service.specs.declared.job.Job.{Job}
-use Rattle.notation.specs.Choice.{if◌then◌else◌, ◌or◌}
+use Rattle.notation.specs.Choice.{when◌then◌else◌, ◌or◌}
 use Rattle.requests.specs.Jobs.{fresh_enabled, job_for}
 
 -- "The program's input: kind (0 write, 1 read), address, n, data for a write, script"
@@ -18,7 +18,7 @@ job_in input = job_for (kind_of input) (get_or input 1 0) (size_of input)
 
 -- the data, for a write: so many bytes
 unfoldable pub data_size : List ℕ → ℕ
-data_size input = if eqb (kind_of input) 0 then size_of input else 0
+data_size input = when eqb (kind_of input) 0 then size_of input else 0
 
 -- "over 4,096 bytes, cut short or of another kind is 21"
 unfoldable pub bad_input : List ℕ → Bool
@@ -28,7 +28,7 @@ bad_input input =
 -- what the input's job gives, with a destination of 68 and an out record of 69 bytes
 unfoldable pub program_report : List ℕ → Report
 program_report input =
-    if bad_input input then declines fresh_enabled 21
+    when bad_input input then declines fresh_enabled 21
     else job_of (job_in input) (take (data_size input) (drop 3 input)) 68 69 (drop (3 + data_size input) input) fresh_enabled
 
 -- what is printed

@@ -20,8 +20,8 @@ use Rattle.controller.specs.Record.{sound}
 use Rattle.controller.specs.Reply.{Outcome, refuses, accepts, waits_for, interrupts_at}
 use Rattle.controller.specs.declared.record.Controller.{Controller}
 use Rattle.laws.specs.Addresses.{LeadBack, Tells, MatchTells, MatchStays}
-use Rattle.notation.proofs.Cases.{if-true, if-false, and_right, split}
-use Rattle.notation.specs.Choice.{if◌then◌else◌, ◌and◌, ◌or◌}
+use Rattle.notation.proofs.Cases.{when-true, when-false, and_right, split}
+use Rattle.notation.specs.Choice.{when◌then◌else◌, ◌and◌, ◌or◌}
 
 -- the address of an address byte is the address it was made of
 address-back : (a : Address) (d : Direction) → a.0 < 128 → address_of (byte_of a d) ≡ a
@@ -34,14 +34,14 @@ pub direction-back : (a : Address) (d : Direction) → direction_of (byte_of a d
 unfolding byte_of bit_of direction_of
 direction-back a Write =
     let bit = (2 * (a.0 % 128) + 0) % 2 in
-    if-false (eqb bit 1) Read Write (ne_eqb bit 1 (omega arith))
+    when-false (eqb bit 1) Read Write (ne_eqb bit 1 (omega arith))
 direction-back a Read =
     let bit = (2 * (a.0 % 128) + 1) % 2 in
-    if-true (eqb bit 1) Read Write (eq-eqb bit 1 (omega arith))
+    when-true (eqb bit 1) Read Write (eq-eqb bit 1 (omega arith))
 
 -- R is the bit of the direction
-bit-back : (r : ℕ) → r < 2 → bit_of (if eqb r 1 then Read else Write) ≡ r
-unfolding bit_of if◌then◌else◌
+bit-back : (r : ℕ) → r < 2 → bit_of (when eqb r 1 then Read else Write) ≡ r
+unfolding bit_of when◌then◌else◌
 bit-back zero h = refl
 bit-back (suc zero) h = refl
 bit-back (suc (suc r)) h = absurd (omega (arith, h))
@@ -56,7 +56,7 @@ lead_back = record { byte = byte-back; address = address-back; direction = direc
 
 -- with AA 0 nothing matches, General Call neither
 pub silent-without-aa : (i2cadr : ℕ) (byte : AddressByte) → (match_of i2cadr false byte).call ≡ Nothing
-unfolding call_of match_of if◌then◌else◌ ◌and◌
+unfolding call_of match_of when◌then◌else◌ ◌and◌
 silent-without-aa i2cadr byte = refl
 
 module _ (i2cadr : ℕ) (aa : Bool) (byte : AddressByte) where
@@ -76,8 +76,8 @@ module _ (i2cadr : ℕ) (aa : Bool) (byte : AddressByte) where
 
   -- the call that the definition's two tests choose
   says : (all own : Bool) → (all ≡ true → Says General) → (own ≡ true → address_of byte ≡ own_address i2cadr) →
-      Says (if all then General else if own then Own (direction_of byte) else Nothing)
-  unfolding if◌then◌else◌ Says
+      Says (when all then General else when own then Own (direction_of byte) else Nothing)
+  unfolding when◌then◌else◌ Says
   says true own f g = f refl
   says false true f g = (g refl, refl)
   says false false f g = tt
@@ -107,7 +107,7 @@ module _ (c : Controller) (byte : ℕ) where
   every_call f g w r n (Own Read) = r
   every_call f g w r n Nothing = n
 
-  or-refused : (b : Bool) (o : Outcome) (number : ℕ) → SameMatch o → SameMatch (if b then o else refuses c number)
+  or-refused : (b : Bool) (o : Outcome) (number : ℕ) → SameMatch o → SameMatch (when b then o else refuses c number)
   unfolding refuses
   or-refused b o number h = split SameMatch b o (refuses c number) (λ e. h) (λ e. refl)
 
@@ -120,7 +120,7 @@ module _ (c : Controller) (byte : ℕ) where
   event_8 argument = or-refused _ _ 8 (every_call (outbid c) refl refl refl refl (matches c argument))
 
 pub match_stays : MatchStays
-unfolding event_of event_sound bad_argument if◌then◌else◌ ◌or◌
+unfolding event_of event_sound bad_argument when◌then◌else◌ ◌or◌
 match_stays c argument byte = (
   or-refused c byte (sound c) _ 10 (event_5 c byte argument),
   or-refused c byte (sound c) _ 10 (event_8 c byte argument),

@@ -16,8 +16,8 @@ use Rattle.controller.specs.Setters.{with_turn, with_hand}
 use Rattle.controller.specs.Reply.{Outcome, refuses, accepts, waits_for, with_status, interrupts_at, changes_status}
 use Rattle.controller.specs.declared.record.Controller.{Controller}
 use Rattle.notation.proofs.Among.{is_true, has, among-has}
-use Rattle.notation.proofs.Cases.{if-true, if-false, split}
-use Rattle.notation.specs.Choice.{if◌then◌else◌, among}
+use Rattle.notation.proofs.Cases.{when-true, when-false, split}
+use Rattle.notation.specs.Choice.{when◌then◌else◌, among}
 
 -- the outcome's record is sound
 pub record Kept (o : Outcome) : Type 0 where
@@ -45,15 +45,15 @@ quiet-sound c r q =
       hand = r.hand;
       moved = r.moved;
       speed = r.speed;
-      host = if-false _ _ _ q.0;
-      move = if-false _ _ _ q.1;
+      host = when-false _ _ _ q.0;
+      move = when-false _ _ _ q.1;
     })
 
 -- Host at a status that the rules give
 pub given-sound : (status : ℕ) (edge : Edge) → T (has given_statuses status) → host_sound (turn.Host status edge) ≡ true
 unfolding host_sound kind status_of
 given-sound status edge g =
-    if-true (among host (host ∷ [])) _ _ (among-has host (host ∷ [])) ∙ among-has status given_statuses ∙ is_true _ g
+    when-true (among host (host ∷ [])) _ _ (among-has host (host ∷ [])) ∙ among-has status given_statuses ∙ is_true _ g
 
 pub host-sound : (c : Controller) (status : ℕ) (edge : Edge) → Ranges c → T (has given_statuses status) →
     c.turn ≡ turn.Host status edge → sound c ≡ true
@@ -65,7 +65,7 @@ host-sound c status edge r g e =
       moved = r.moved;
       speed = r.speed;
       host = rw e (given-sound status edge g);
-      move = rw e (if-false (among host data_turns) _ _ (among-has host data_turns));
+      move = rw e (when-false (among host data_turns) _ _ (among-has host data_turns));
     })
 
 -- the ends of the rules
@@ -96,7 +96,7 @@ status-changed c status r g =
     accepted _ 0
     (host-sound (with_status c status Stop) status Stop (record { pointer = r.pointer; hand = r.hand; moved = r.moved; speed = r.speed }) g refl)
 
-pub either : (b : Bool) (x y : Outcome) → Kept x → Kept y → Kept (if b then x else y)
+pub either : (b : Bool) (x y : Outcome) → Kept x → Kept y → Kept (when b then x else y)
 either b x y p q = split Kept b x y (λ e. p) (λ e. q)
 
 pub free-quiet : Quiet turn.Free

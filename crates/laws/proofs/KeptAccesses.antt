@@ -27,8 +27,8 @@ use Rattle.controller.specs.Reset.{reset_with, completes_reset, write_preset}
 use Rattle.controller.specs.declared.record.Controller.{Controller}
 use Rattle.controller.specs.declared.record.Registers.{Registers}
 use Rattle.notation.proofs.Among.{has, among-has, none_of, without}
-use Rattle.notation.proofs.Cases.{if-false, and-true, and-on, and_no_left, and_no_right, or-false, or-left-off, or_right_off, split}
-use Rattle.notation.specs.Choice.{if◌then◌else◌, ◌and◌, ◌or◌, among}
+use Rattle.notation.proofs.Cases.{when-false, and-true, and-on, and_no_left, and_no_right, or-false, or-left-off, or_right_off, split}
+use Rattle.notation.specs.Choice.{when◌then◌else◌, ◌and◌, ◌or◌, among}
 use Rattle.laws.proofs.Kept.{Kept, ranges, quiet-sound, given-sound, refused, accepted, either, off-quiet}
 
 -- the reset record, whatever the buffer and the reason
@@ -100,13 +100,13 @@ write-at-pointer c value s idle =
       moved = p.moved;
       speed = stored-speed c.registers c.pointer value p.speed;
       host = p.host;
-      move = if-false _ _ _ (without (kind c.turn) data_turns wire_turns tt (idle e));
+      move = when-false _ _ _ (without (kind c.turn) data_turns wire_turns tt (idle e));
     })))
 
 -- A write to I2CCON: moved is 0, and BC is in range where a buffered data move starts.
 module _ (c : Controller) (k : Control) (t : Turn) (s : sound c ≡ true) (h : host_sound t ≡ true) where
   control-written : bad_count c k t ≡ false → Kept (controlled c k t)
-  unfolding controlled bad_count keeps move_sound if◌then◌else◌
+  unfolding controlled bad_count keeps move_sound when◌then◌else◌
   control-written b =
       let r = ranges c s in
       written _
@@ -120,7 +120,7 @@ module _ (c : Controller) (k : Control) (t : Turn) (s : sound c ≡ true) (h : h
       }))
     where
       moves : (mode data-turn : Bool) → (mode and data-turn and (eqb (byte_count c) 0 or ltb 68 (byte_count c))) ≡ false →
-          (if data-turn then (if mode then ltb 0 (byte_count c) and leb (byte_count c) 68 else eqb 0 0) else true) ≡ true
+          (when data-turn then (when mode then ltb 0 (byte_count c) and leb (byte_count c) 68 else eqb 0 0) else true) ≡ true
       moves mode false e = refl
       moves false true e = refl
       moves true true e =
@@ -144,7 +144,7 @@ pub record WriteLeads (held : Bool) (r : Response) : Type 0 where
   pub given : Given r
 
 choose : (held b : Bool) (x y : Response) → (b ≡ true → WriteLeads held x) → (b ≡ false → WriteLeads held y) →
-    WriteLeads held (if b then x else y)
+    WriteLeads held (when b then x else y)
 choose held b x y p q = split (WriteLeads held) b x y p q
 
 unlisted : (held : Bool) → WriteLeads held Unlisted
@@ -154,7 +154,7 @@ leads : (held : Bool) (t : Turn) → has (host ∷ []) (kind t) ≡ false → Wr
 unfolding host_sound
 leads held t h =
     let other = among-has (kind t) (host ∷ []) ∙ h in
-    record { clears = λ n. other; given = if-false _ _ _ other }
+    record { clears = λ n. other; given = when-false _ _ _ other }
 
 -- at 38h itself
 stays : (status : ℕ) (edge : Edge) → among status (0x38 ∷ []) ≡ true → WriteLeads (eqb status 0x38) (Next (turn.Host 0x38 edge))
@@ -193,7 +193,7 @@ unfolding write_flags bad_count host_sound
 write-flags c k s =
     either _ _ _ (refused c 4 s)
     (either k.ensio _ _ (enabling c k _ (response c.turn k) s (response-clears c.turn k))
-    (control-written c (without_start k) turn.Off s (if-false _ _ _ off-quiet.0) (and_no_right k.mode _ (and_no_left _ _ off-quiet.1))))
+    (control-written c (without_start k) turn.Off s (when-false _ _ _ off-quiet.0) (and_no_right k.mode _ (and_no_left _ _ off-quiet.1))))
 
 write-control : (c : Controller) (value : ℕ) → sound c ≡ true → Kept (write_control c value)
 unfolding write_control

@@ -22,8 +22,8 @@ use Rattle.controller.specs.Setters.{with_control}
 use Rattle.controller.specs.Transfer.{is_last, counted, data_out, address_status, byte_out, acknowledges_last, received, data_in, slave_in, byte_in, sent_direction}
 use Rattle.controller.specs.declared.record.Controller.{Controller}
 use Rattle.notation.proofs.Among.{has, within}
-use Rattle.notation.proofs.Cases.{if-true, and-true, and_left, and_right, split}
-use Rattle.notation.specs.Choice.{if◌then◌else◌, ◌and◌, among}
+use Rattle.notation.proofs.Cases.{when-true, and-true, and_left, and_right, split}
+use Rattle.notation.specs.Choice.{when◌then◌else◌, ◌and◌, among}
 use Rattle.laws.proofs.Kept.{Kept, Ranges, ranges, accepted, interrupted, refused, either, ends}
 
 own_start_lem : (c : Controller) → sound c ≡ true → Kept (own_start c)
@@ -96,7 +96,7 @@ module _ (c : Controller) (s : sound c ≡ true) (t : among (kind c.turn) data_t
       record { pointer = r.pointer; hand = r.hand; moved = omega arith; speed = r.speed }
 
   goes_on_lem : is_last c ≡ false → sound (counted c) ≡ true
-  unfolding is_last move_sound if◌then◌else◌
+  unfolding is_last move_sound when◌then◌else◌
   goes_on_lem l =
       let r = counted-ranges in
       whole (counted c) (record {
@@ -105,15 +105,15 @@ module _ (c : Controller) (s : sound c ≡ true) (t : among (kind c.turn) data_t
         moved = r.moved;
         speed = r.speed;
         host = (parts c s).host;
-        move = if-true (among (kind c.turn) data_turns) _ _ t ∙ step c.control.mode l was;
+        move = when-true (among (kind c.turn) data_turns) _ _ t ∙ step c.control.mode l was;
       })
     where
-      was : (if c.control.mode then ltb c.moved (byte_count c) and leb (byte_count c) 68 else eqb c.moved 0) ≡ true
-      was = sym (if-true (among (kind c.turn) data_turns) _ _ t) ∙ (parts c s).move
+      was : (when c.control.mode then ltb c.moved (byte_count c) and leb (byte_count c) 68 else eqb c.moved 0) ≡ true
+      was = sym (when-true (among (kind c.turn) data_turns) _ _ t) ∙ (parts c s).move
 
-      step : (mode : Bool) → (if mode then eqb (c.moved + 1) (byte_count c) else true) ≡ false →
-          (if mode then ltb c.moved (byte_count c) and leb (byte_count c) 68 else eqb c.moved 0) ≡ true →
-          (if mode then ltb (c.moved + 1) (byte_count c) and leb (byte_count c) 68 else eqb (c.moved + 1) 0) ≡ true
+      step : (mode : Bool) → (when mode then eqb (c.moved + 1) (byte_count c) else true) ≡ false →
+          (when mode then ltb c.moved (byte_count c) and leb (byte_count c) 68 else eqb c.moved 0) ≡ true →
+          (when mode then ltb (c.moved + 1) (byte_count c) and leb (byte_count c) 68 else eqb (c.moved + 1) 0) ≡ true
       step true l w =
           let below = ltb-true c.moved (byte_count c) (and_left (ltb c.moved (byte_count c)) (leb (byte_count c) 68) w) in
           let short = eqb-false (c.moved + 1) (byte_count c) l in
@@ -150,7 +150,7 @@ byte_out_lem c nack s =
     split Kept _ _ _ (λ e. interrupted c _ _ _ (ranges c s) (status-given (sent_direction c) nack))
     (λ e. split Kept (among (kind c.turn) (send ∷ [])) _ _ (λ t. data_out_lem c s (within _ (send ∷ []) data_turns tt t) nack 0x30 0x28 tt tt)
     (λ e. split Kept (among (kind c.turn) (slave_send ∷ [])) _ _
-    (λ t. data_out_lem c s (within _ (slave_send ∷ []) data_turns tt t) nack 0xC0 (if c.control.aa then 0xB8 else 0xC8) tt
+    (λ t. data_out_lem c s (within _ (slave_send ∷ []) data_turns tt t) nack 0xC0 (when c.control.aa then 0xB8 else 0xC8) tt
     (split (λ n. T (has given_statuses n)) c.control.aa 0xB8 0xC8 (λ e. tt) (λ e. tt)))
     (λ e. refused c 8 s)))
 

@@ -36,8 +36,8 @@ use Rattle.controller.specs.Setters.{with_turn}
 use Rattle.controller.specs.Transfer.{data_out, byte_out, received, data_in, slave_in, byte_in}
 use Rattle.controller.specs.declared.record.Controller.{Controller}
 use Rattle.notation.proofs.Among.{has, every, same, apart, key_is}
-use Rattle.notation.proofs.Cases.{if-true, if-false, and-true, and_no_left, and_no_right, split}
-use Rattle.notation.specs.Choice.{if◌then◌else◌, ◌and◌, among}
+use Rattle.notation.proofs.Cases.{when-true, when-false, and-true, and_no_left, and_no_right, split}
+use Rattle.notation.specs.Choice.{when◌then◌else◌, ◌and◌, among}
 use Rattle.laws.proofs.Kept.{Quiet, free-quiet, busy-quiet, listen-quiet, off-quiet}
 use Rattle.laws.proofs.KeptAccesses.{WriteLeads, response-clears}
 use Rattle.laws.specs.Reasons.{ReasonsFollow, ReasonOfStatus, ReasonAgrees}
@@ -59,40 +59,40 @@ reset-agrees buffer reason = silent Off reason off-quiet.0
 record Follows (c : Controller) (resets event : Bool) (o : Outcome) : Type 0 where
   follows :
       o.next.reason ≡
-      (if ltb 0 o.refused then c.reason
-      else if resets then Reset
-      else if event and interrupts o.next then reason_of (status_of o.next.turn)
+      (when ltb 0 o.refused then c.reason
+      else when resets then Reset
+      else when event and interrupts o.next then reason_of (status_of o.next.turn)
       else c.reason)
   agrees : ReasonOfStatus c → ReasonOfStatus o.next
 
 -- the ends of the rules
 refused : (c : Controller) (resets event : Bool) (n : ℕ) → ltb 0 n ≡ true → Follows c resets event (refuses c n)
 unfolding refuses
-refused c resets event n e = record { follows = sym (if-true _ _ _ e); agrees = λ h. h }
+refused c resets event n e = record { follows = sym (when-true _ _ _ e); agrees = λ h. h }
 
 reset-done : (c : Controller) (resets event : Bool) → resets ≡ true → Follows c resets event (accepts (reset c) 0)
-unfolding accepts reset_with if◌then◌else◌
-reset-done c resets event e = record { follows = sym (if-true _ _ _ e); agrees = λ _. reset-agrees c.buffer Reset }
+unfolding accepts reset_with when◌then◌else◌
+reset-done c resets event e = record { follows = sym (when-true _ _ _ e); agrees = λ _. reset-agrees c.buffer Reset }
 
 choose : (c : Controller) (resets event b : Bool) (x y : Outcome) → (b ≡ true → Follows c resets event x) →
-    (b ≡ false → Follows c resets event y) → Follows c resets event (if b then x else y)
+    (b ≡ false → Follows c resets event y) → Follows c resets event (when b then x else y)
 choose c resets event b x y p q = split (Follows c resets event) b x y p q
 
 -- Events. The reason is kept, and SI is 0 after it.
 keeping : (c d : Controller) (v : ℕ) → d.reason ≡ c.reason → among (kind d.turn) (host ∷ []) ≡ false → Follows c false true (accepts d v)
-unfolding accepts if◌then◌else◌ ◌and◌
-keeping c d v e t = record { follows = e ∙ sym (if-false _ _ _ t); agrees = λ _. silent d.turn d.reason t }
+unfolding accepts when◌then◌else◌ ◌and◌
+keeping c d v e t = record { follows = e ∙ sym (when-false _ _ _ t); agrees = λ _. silent d.turn d.reason t }
 
 waiting : (c d : Controller) (t : Turn) (v : ℕ) → d.reason ≡ c.reason → Quiet t → Follows c false true (waits_for d t v)
 unfolding waits_for
 waiting c d t v e q = keeping c (with_turn d t) v e q.0
 
 interrupted : (c d : Controller) (s : ℕ) (e : Edge) (v : ℕ) → Follows c false true (interrupts_at d s e v)
-unfolding interrupts_at accepts kind status_of among if◌then◌else◌ ◌and◌
+unfolding interrupts_at accepts kind status_of among when◌then◌else◌ ◌and◌
 interrupted c d s e v = record { follows = refl; agrees = λ _ _. refl }
 
 status-changed : (c d : Controller) (s : ℕ) → Follows c false true (changes_status d s)
-unfolding changes_status accepts kind status_of among if◌then◌else◌ ◌and◌
+unfolding changes_status accepts kind status_of among when◌then◌else◌ ◌and◌
 status-changed c d s = record { follows = refl; agrees = λ _ _. refl }
 
 -- in a turn that is listed, and Host is not listed with it
@@ -138,8 +138,8 @@ event-follows c number argument = search (refused, reset-done, no_pin, event-sou
 -- Accesses. The reason is kept.
 access-keeps : (c d : Controller) (resets : Bool) (v : ℕ) → (ReasonOfStatus c → ReasonOfStatus d) → d.reason ≡ c.reason → resets ≡ false →
     Follows c resets false (accepts d v)
-unfolding accepts if◌then◌else◌ ◌and◌
-access-keeps c d resets v a e f = record { follows = e ∙ sym (if-false _ _ _ f); agrees = a }
+unfolding accepts when◌then◌else◌ ◌and◌
+access-keeps c d resets v a e f = record { follows = e ∙ sym (when-false _ _ _ f); agrees = a }
 
 accessed : (c d : Controller) (resets : Bool) (v : ℕ) → d.turn ≡ c.turn → d.reason ≡ c.reason → resets ≡ false →
     Follows c resets false (accepts d v)
@@ -168,7 +168,7 @@ ruleset accesses =
 
 -- at 38h it leaves the turn
 next_at_38h : (e : Edge) (k : Control) (t : Turn) → Next t ≡ response (Host 0x38 e) k → t ≡ Host 0x38 e
-unfolding response responds_at kind status_of edge_of among if◌then◌else◌
+unfolding response responds_at kind status_of edge_of among when◌then◌else◌
 next_at_38h e k t p = ap leads_to p
   where
     leads_to : Response → Turn
@@ -195,14 +195,14 @@ read-follows : (c : Controller) (register : ℕ) → Follows c false false (read
 unfolding read_of read_sound read_data
 read-follows c register = search accesses depth 12
 
-either_way : {A : Type 0} (b : Bool) (x : A) → (if b then x else x) ≡ x
-unfolding if◌then◌else◌
+either_way : {A : Type 0} (b : Bool) (x : A) → (when b then x else x) ≡ x
+unfolding when◌then◌else◌
 either_way true x = refl
 either_way false x = refl
 
 -- REQUEST 8: the reason is set with each new status and by a reset, and otherwise kept.
 pub reasons_follow : ReasonsFollow
-unfolding if◌then◌else◌ ◌and◌
+unfolding when◌then◌else◌ ◌and◌
 reasons_follow c = record {
   event = λ number argument. (event-follows c number argument).follows;
   write = λ register value. (write-follows c register value).follows;

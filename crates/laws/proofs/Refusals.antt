@@ -27,7 +27,7 @@ use Rattle.controller.specs.Reset.{write_preset}
 use Rattle.controller.specs.Transfer.{data_out, byte_out, data_in, slave_in, byte_in}
 use Rattle.controller.specs.declared.record.Controller.{Controller}
 use Rattle.notation.proofs.Among.{has, every, is_true, among-has, within}
-use Rattle.notation.specs.Choice.{if◌then◌else◌, among}
+use Rattle.notation.specs.Choice.{when◌then◌else◌, among}
 
 -- an outcome that is accepted or refused with one of these numbers and, where it is refused, keeps the record and has the value 0
 pub record Stays (c : Controller) (numbers : List ℕ) (o : Outcome) : Type 0 where
@@ -57,8 +57,8 @@ accepted : (c d : Controller) (ns : List ℕ) (v : ℕ) → Stays c ns (accepts 
 unfolding accepts
 accepted c d ns v = record { numbered = among-has 0 (0 ∷ ns); record-kept = λ h. absurd (h refl); value-zero = λ h. absurd (h refl) }
 
-either : (c : Controller) (ns : List ℕ) (b : Bool) (x y : Outcome) → Stays c ns x → Stays c ns y → Stays c ns (if b then x else y)
-unfolding if◌then◌else◌
+either : (c : Controller) (ns : List ℕ) (b : Bool) (x y : Outcome) → Stays c ns x → Stays c ns y → Stays c ns (when b then x else y)
+unfolding when◌then◌else◌
 either c ns true x y p q = p
 either c ns false x y p q = q
 
@@ -235,5 +235,5 @@ event-stays c number argument =
     (either c of_event _ _ _ (widened c of_sound_event of_event _ tt (event-sound c number argument)) (refused c of_event 10 tt))))
 
 pub sound-event-stays : (c : Controller) (number argument : ℕ) → sound c ≡ true → Stays c of_sound_event (event_of c number argument)
-unfolding event_of if◌then◌else◌
+unfolding event_of when◌then◌else◌
 sound-event-stays c number argument s = rw s (search (event-sound, ends) depth 8)

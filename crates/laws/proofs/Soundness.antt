@@ -10,7 +10,7 @@ use Rattle.controller.specs.Record.{sound}
 use Rattle.controller.specs.Reply.{accepts}
 use Rattle.controller.specs.Reset.{fresh}
 use Rattle.controller.specs.declared.record.Controller.{Controller}
-use Rattle.notation.specs.Choice.{if◌then◌else◌, ◌or◌}
+use Rattle.notation.specs.Choice.{when◌then◌else◌, ◌or◌}
 use Rattle.laws.proofs.Kept.{Kept, refused, accepted, either}
 use Rattle.laws.proofs.KeptAccesses.{reset-sound, read_kept, write_kept}
 use Rattle.laws.proofs.KeptEvents.{event-kept}
@@ -42,5 +42,5 @@ event-stays-sound c number argument s = (event-next c number argument s).next-so
 
 -- event 14, of any record whatever
 pub reset_pin_makes_sound : (c : Controller) → sound (event_of c 14 0).next ≡ true
-unfolding event_of bad_argument if◌then◌else◌ ◌or◌ accepts
+unfolding event_of bad_argument when◌then◌else◌ ◌or◌ accepts
 reset_pin_makes_sound c = reset-sound c.buffer _

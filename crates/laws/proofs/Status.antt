@@ -14,8 +14,8 @@ use Rattle.controller.specs.Record.{interrupts, given_statuses, host_sound, soun
 use Rattle.controller.specs.Reply.{Outcome, accepts}
 use Rattle.controller.specs.declared.record.Controller.{Controller}
 use Rattle.notation.proofs.Among.{same, is_same, has, among-has}
-use Rattle.notation.proofs.Cases.{if-true, and_no_right}
-use Rattle.notation.specs.Choice.{if◌then◌else◌, ◌and◌, among}
+use Rattle.notation.proofs.Cases.{when-true, and_no_right}
+use Rattle.notation.specs.Choice.{when◌then◌else◌, ◌and◌, among}
 
 -- a test that holds at both truth values holds at each
 abbrev always : (Bool → Bool) → Bool
@@ -51,7 +51,7 @@ bit-three aa ensio sta sto si mode =
     (at_each (λ a. always (λ b. always (λ c. always (λ d. always (λ e. always (bit3 a b c d e)))))) tt aa) ensio) sta) sto) si) mode
 
 weight : (b : Bool) (n : ℕ) → weighs b n ≡ w b n
-unfolding weighs if◌then◌else◌
+unfolding weighs when◌then◌else◌
 weight true n = refl
 weight false n = refl
 
@@ -63,7 +63,7 @@ interrupt-bit c =
 
 -- what register 3 reads of a sound record
 pub control-reads : (c : Controller) → sound c ≡ true → (read_of c 3).value ≡ reads_as c.control (interrupts c)
-unfolding read_of read_sound indirect_at bars_read accepts if◌then◌else◌ ◌and◌
+unfolding read_of read_sound indirect_at bars_read accepts when◌then◌else◌ ◌and◌
 control-reads c s = rw (s, and_no_right (among (kind c.turn) wire_turns) false refl)
 
 -- SI, as register 3 shows it, is 1 exactly in Host.
@@ -80,7 +80,7 @@ given-not-idle x e = step (eqb x 0xF8) refl
 
 -- register 0 of a sound record is read, and shows the turn's status
 pub status-accepted : (c : Controller) → sound c ≡ true → read_of c 0 ≡ accepts c (status_of c.turn)
-unfolding read_of read_sound indirect_at bars_read if◌then◌else◌ ◌and◌
+unfolding read_of read_sound indirect_at bars_read when◌then◌else◌ ◌and◌
 status-accepted c s = rw (s, and_no_right (among (kind c.turn) wire_turns) false refl)
 
 pub status-reads : (c : Controller) → sound c ≡ true → (read_of c 0).value ≡ status_of c.turn
@@ -92,7 +92,7 @@ unfolding host_sound
 idle-status c s = step (interrupts c) refl
   where
     step : (b : Bool) → interrupts c ≡ b → eqb (status_of c.turn) 0xF8 ≡ not b
-    step true h = given-not-idle (status_of c.turn) (sym (if-true (interrupts c) _ _ h) ∙ (parts c s).host)
+    step true h = given-not-idle (status_of c.turn) (sym (when-true (interrupts c) _ _ h) ∙ (parts c s).host)
     step false h = eq-eqb (status_of c.turn) 0xF8 (status-idle c.turn h)
 
 -- Status, as register 0 reads it, is F8h exactly when SI, as register 3 shows it, is 0.

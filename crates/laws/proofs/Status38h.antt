@@ -27,8 +27,8 @@ use Rattle.controller.specs.Setters.{with_hand, with_moved, with_control, with_t
 use Rattle.controller.specs.Transfer.{byte_out, byte_in}
 use Rattle.controller.specs.declared.record.Controller.{Controller}
 use Rattle.notation.proofs.Among.{among-has}
-use Rattle.notation.proofs.Cases.{if-false, and_no_right, split}
-use Rattle.notation.specs.Choice.{if◌then◌else◌, ◌and◌, ◌or◌, among}
+use Rattle.notation.proofs.Cases.{when-false, and_no_right, split}
+use Rattle.notation.specs.Choice.{when◌then◌else◌, ◌and◌, ◌or◌, among}
 use Rattle.laws.specs.Status38h.{turn_after_write_at38h, stored_at38h, event_at38h, Stays38h, Status38hStays}
 
 -- the outcome's turn
@@ -47,7 +47,7 @@ written : (t : Turn) (c : Controller) → c.turn ≡ t → TurnIs t (wrote c)
 unfolding wrote
 written t c e = accepted t _ 0 e
 
-choose : (t : Turn) (b : Bool) (x y : Outcome) → (b ≡ true → TurnIs t x) → (b ≡ false → TurnIs t y) → TurnIs t (if b then x else y)
+choose : (t : Turn) (b : Bool) (x y : Outcome) → (b ≡ true → TurnIs t x) → (b ≡ false → TurnIs t y) → TurnIs t (when b then x else y)
 choose t b x y p q = split (TurnIs t) b x y p q
 
 no_both : {A : Type 0} {b : Bool} → b ≡ true → b ≡ false → A
@@ -71,16 +71,16 @@ module _ (c : Controller) (edge : Edge) (s : sound (with_turn c (Host 0x38 edge)
   enables : (value : ℕ) → (flags_of value).ensio ≡ true →
       write_of d 3 value ≡ wrote (with_control (with_moved (with_hand d 0) 0) (stored_at38h d.control (flags_of value)))
   unfolding write_of write_sound indirect_at bars_write write_control write_flags enabled response responds_at bad_count controlled keeps
-      kind status_of edge_of among if◌then◌else◌ ◌and◌ ◌or◌
+      kind status_of edge_of among when◌then◌else◌ ◌and◌ ◌or◌
   enables value e = rw (s, e, and_no_right (flags_of value).mode false refl)
 
   -- with ENSIO 0
   disables : (value : ℕ) → (flags_of value).ensio ≡ false → TurnIs Off (write_of d 3 value)
-  unfolding write_of write_sound indirect_at bars_write write_control write_flags controlled kind status_of among if◌then◌else◌ ◌and◌ ◌or◌
+  unfolding write_of write_sound indirect_at bars_write write_control write_flags controlled kind status_of among when◌then◌else◌ ◌and◌ ◌or◌
   disables value e = rw (s, e) (written Off _ refl)
 
   control-turn : (value : ℕ) → TurnIs (turn_after_write_at38h d 3 value) (write_of d 3 value)
-  unfolding indirect_at ◌and◌ if◌then◌else◌
+  unfolding indirect_at ◌and◌ when◌then◌else◌
   control-turn value = by_ensio (flags_of value).ensio refl
     where
       by_ensio : (b : Bool) → (flags_of value).ensio ≡ b → TurnIs (turn_after_write_at38h d 3 value) (write_of d 3 value)
@@ -89,7 +89,7 @@ module _ (c : Controller) (edge : Edge) (s : sound (with_turn c (Host 0x38 edge)
 
   -- register 2, by where the pointer is and whether the software reset is complete
   pointer-turn : (value : ℕ) → TurnIs (turn_after_write_at38h d 2 value) (write_of d 2 value)
-  unfolding write_of write_sound indirect_at bars_write write_at_pointer write_preset reset_with kind among if◌then◌else◌ ◌and◌ ◌or◌
+  unfolding write_of write_sound indirect_at bars_write write_at_pointer write_preset reset_with kind among when◌then◌else◌ ◌and◌ ◌or◌
   pointer-turn value = by_pointer (eqb c.pointer 5) (eqb c.pointer 7) (completes_reset d value) refl refl refl
     where
       by_pointer : (at5 at7 complete : Bool) → eqb c.pointer 5 ≡ at5 → eqb c.pointer 7 ≡ at7 → completes_reset d value ≡ complete →
@@ -115,7 +115,7 @@ module _ (c : Controller) (edge : Edge) (s : sound (with_turn c (Host 0x38 edge)
       (λ e. refused _ d 10 refl))
 
   write-turn : (register value : ℕ) → TurnIs (turn_after_write_at38h d register value) (write_of d register value)
-  unfolding indirect_at if◌then◌else◌ ◌and◌
+  unfolding indirect_at when◌then◌else◌ ◌and◌
   write-turn register value = by_register (eqb register 2) (eqb register 3) refl refl
     where
       by_register : (two three : Bool) → eqb register 2 ≡ two → eqb register 3 ≡ three →
@@ -128,28 +128,28 @@ module _ (c : Controller) (edge : Edge) (s : sound (with_turn c (Host 0x38 edge)
 
   -- the two events that are expected there
   stops : (argument : ℕ) → event_sound d 3 argument ≡ accepts (with_turn d Free) 0
-  unfolding event_sound other_stop waits_for kind status_of among if◌then◌else◌
+  unfolding event_sound other_stop waits_for kind status_of among when◌then◌else◌
   stops argument = refl
 
-  times_out : (argument : ℕ) → event_sound d 12 argument ≡ (if timeout_enabled d then accepts (with_status d 0x78 Stop) 0 else refuses d 8)
-  unfolding event_sound clock_held changes_status kind status_of among if◌then◌else◌ ◌and◌
+  times_out : (argument : ℕ) → event_sound d 12 argument ≡ (when timeout_enabled d then accepts (with_status d 0x78 Stop) 0 else refuses d 8)
+  unfolding event_sound clock_held changes_status kind status_of among when◌then◌else◌ ◌and◌
   times_out argument = by_te (timeout_enabled d) refl
     where
       by_te : (te : Bool) → timeout_enabled d ≡ te →
-          event_sound d 12 argument ≡ (if timeout_enabled d then accepts (with_status d 0x78 Stop) 0 else refuses d 8)
+          event_sound d 12 argument ≡ (when timeout_enabled d then accepts (with_status d 0x78 Stop) 0 else refuses d 8)
       by_te true e = rw e
       by_te false e = rw e
 
   -- the others
   idle_8 : idle d ≡ refuses d 8
   unfolding idle kind
-  idle_8 = if-false _ _ _ (and_no_right _ _ (and_no_right _ _ (among-has host (busy ∷ listen ∷ []))))
+  idle_8 = when-false _ _ _ (and_no_right _ _ (and_no_right _ _ (among-has host (busy ∷ listen ∷ []))))
 
   refused_8 : (argument : ℕ) →
       (own_start d ≡ refuses d 8) × (other_start d ≡ refuses d 8) × (own_stop d ≡ refuses d 8) × (address_byte d argument ≡ refuses d 8) ×
       (byte_out d argument ≡ refuses d 8) × (byte_in d argument ≡ refuses d 8) × (address_lost d argument ≡ refuses d 8) ×
       (data_lost d ≡ refuses d 8) × (illegal_edge d ≡ refuses d 8) × (data_held d ≡ refuses d 8)
-  unfolding own_start other_start own_stop address_byte byte_out byte_in address_lost data_lost illegal_edge data_held kind among if◌then◌else◌ ◌and◌ ◌or◌
+  unfolding own_start other_start own_stop address_byte byte_out byte_in address_lost data_lost illegal_edge data_held kind among when◌then◌else◌ ◌and◌ ◌or◌
   refused_8 argument = (refl, refl, refl, refl, refl, refl, refl, refl, refl, refl)
 
   unexpected : (number argument : ℕ) → eqb number 3 ≡ false → eqb number 12 ≡ false → event_sound d number argument ≡ refuses d 8
@@ -161,20 +161,20 @@ module _ (c : Controller) (edge : Edge) (s : sound (with_turn c (Host 0x38 edge)
       search (gives_8, r.0, r.1, r.2, r.3, r.4, r.5, r.6, r.7, r.8, r.9, idle_8, not-3, not-12) depth 40
     where
       gives_8 : (b : Bool) (x y : Outcome) → (b ≡ true → x ≡ refuses d 8) → (b ≡ false → y ≡ refuses d 8) →
-          (if b then x else y) ≡ refuses d 8
+          (when b then x else y) ≡ refuses d 8
       gives_8 b x y p q = split (λ o. o ≡ refuses d 8) b x y p q
 
   -- an event with a number of 1 to 14 and an argument that it takes
   abbrev Agrees : ℕ → ℕ → Type 0
   Agrees number argument =
-      (if eqb number 14 then accepts (reset d) 0 else if sound d then event_sound d number argument else refuses d 10) ≡
-      (if eqb number 3 then accepts (with_turn d Free) 0
-      else if eqb number 12 and timeout_enabled d then accepts (with_status d 0x78 Stop) 0
-      else if eqb number 14 then accepts (reset d) 0
+      (when eqb number 14 then accepts (reset d) 0 else when sound d then event_sound d number argument else refuses d 10) ≡
+      (when eqb number 3 then accepts (with_turn d Free) 0
+      else when eqb number 12 and timeout_enabled d then accepts (with_status d 0x78 Stop) 0
+      else when eqb number 14 then accepts (reset d) 0
       else refuses d 8)
 
   agrees : (number argument : ℕ) → Agrees number argument
-  unfolding if◌then◌else◌ ◌and◌
+  unfolding when◌then◌else◌ ◌and◌
   agrees number argument = by_number (eqb number 3) (eqb number 12) (eqb number 14) refl refl refl
     where
       at : (k : ℕ) → eqb number k ≡ true → Agrees k argument → Agrees number argument
@@ -191,8 +191,8 @@ module _ (c : Controller) (edge : Edge) (s : sound (with_turn c (Host 0x38 edge)
   unfolding event_of
   event_is number argument = later _ _ _ _ (later _ _ _ _ (agrees number argument))
     where
-      later : (b : Bool) (x y y' : Outcome) → y ≡ y' → (if b then x else y) ≡ (if b then x else y')
-      later b x y y' e = ap (λ (o : Outcome). if b then x else o) e
+      later : (b : Bool) (x y y' : Outcome) → y ≡ y' → (when b then x else y) ≡ (when b then x else y')
+      later b x y y' e = ap (λ (o : Outcome). when b then x else o) e
 
   all : Stays38h d
   all = record {

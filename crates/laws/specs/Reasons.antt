@@ -12,23 +12,23 @@ use Rattle.controller.specs.Reply.{Outcome}
 use Rattle.controller.specs.Reset.{fresh}
 use Rattle.controller.specs.declared.record.Controller.{Controller}
 use Rattle.laws.specs.SoftwareReset.{resets_by_software}
-use Rattle.notation.specs.Choice.{if◌then◌else◌}
+use Rattle.notation.specs.Choice.{when◌then◌else◌}
 
 -- After an event. A refused one keeps it, with all else. The reset pin sets `Reset`. An accepted event that gives a status leads to Host and sets that
 -- status's; every other keeps it.
 abbrev pub reason_after_event : Controller → ℕ → Outcome → Reason
 reason_after_event c number o =
-    if ltb 0 o.refused then c.reason
-    else if eqb number 14 then Reset
-    else if interrupts o.next then reason_of (status_of o.next.turn)
+    when ltb 0 o.refused then c.reason
+    else when eqb number 14 then Reset
+    else when interrupts o.next then reason_of (status_of o.next.turn)
     else c.reason
 
 -- After a write. A refused one keeps it. The one that completes the software reset sets `Reset`; every other keeps it, an I2CCON write too, also at 38h and
 -- with ENSIO 0.
 abbrev pub reason_after_write : Controller → ℕ → ℕ → Outcome → Reason
 reason_after_write c register value o =
-    if ltb 0 o.refused then c.reason
-    else if resets_by_software c register value then Reset
+    when ltb 0 o.refused then c.reason
+    else when resets_by_software c register value then Reset
     else c.reason
 
 pub record ReasonAfter (c : Controller) : Type 0 where

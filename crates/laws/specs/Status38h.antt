@@ -16,13 +16,13 @@ use Rattle.controller.specs.Reset.{reset}
 use Rattle.controller.specs.Setters.{with_hand, with_moved, with_control, with_turn}
 use Rattle.controller.specs.declared.record.Controller.{Controller}
 use Rattle.laws.specs.SoftwareReset.{resets_by_software}
-use Rattle.notation.specs.Choice.{if◌then◌else◌, ◌and◌, ◌or◌}
+use Rattle.notation.specs.Choice.{when◌then◌else◌, ◌and◌, ◌or◌}
 
 -- Where a write leads. To Off: "A write with ENSIO 0 still leads to Off", and the 5Ah that completes the software reset. Every other leaves turn and status.
 abbrev pub turn_after_write_at38h : Controller → ℕ → ℕ → Turn
 turn_after_write_at38h c register value =
-    if eqb register 3 and not (flags_of value).ensio then Off
-    else if resets_by_software c register value then Off
+    when eqb register 3 and not (flags_of value).ensio then Off
+    else when resets_by_software c register value then Off
     else c.turn
 
 -- "stores AA, ENSIO, STA and MODE, never STO"
@@ -33,11 +33,11 @@ stored_at38h old k = record { aa = k.aa; ensio = k.ensio; sta = k.sta; sto = old
 -- nothing else, so hand place and moved count stay. The reset pin resets. Every other is refused, by the first of the lines 1, 2 and 8 that applies.
 abbrev pub event_at38h : Controller → ℕ → ℕ → Outcome
 event_at38h c number argument =
-    if eqb number 0 or ltb 14 number then refuses c 1
-    else if bad_argument number argument then refuses c 2
-    else if eqb number 3 then accepts (with_turn c Free) 0
-    else if eqb number 12 and timeout_enabled c then accepts (with_status c 0x78 Stop) 0
-    else if eqb number 14 then accepts (reset c) 0
+    when eqb number 0 or ltb 14 number then refuses c 1
+    else when bad_argument number argument then refuses c 2
+    else when eqb number 3 then accepts (with_turn c Free) 0
+    else when eqb number 12 and timeout_enabled c then accepts (with_status c 0x78 Stop) 0
+    else when eqb number 14 then accepts (reset c) 0
     else refuses c 8
 
 -- Source 004, 8.9.2: "In order to exit state 38h, a Time-out, Reset, or external STOP are required"; and, by the request, a write with ENSIO 0 leads out too.

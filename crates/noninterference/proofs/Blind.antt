@@ -32,7 +32,7 @@ use Rattle.controller.specs.Reset.{reset_with, completes_reset, write_preset}
 use Rattle.controller.specs.Transfer.{cursor, is_last, acknowledges_last, received, data_out, address_status, byte_out, data_in, slave_in, byte_in}
 use Rattle.controller.specs.declared.record.Controller.{Controller}
 use Rattle.notation.proofs.Among.{has, among-has, is_true, within}
-use Rattle.notation.specs.Choice.{if◌then◌else◌, ◌and◌, ◌or◌, among}
+use Rattle.notation.specs.Choice.{when◌then◌else◌, ◌and◌, ◌or◌, among}
 
 -- all of the record but the buffer
 abbrev pub blank : Controller → Controller
@@ -75,8 +75,8 @@ writing : (c d : Controller) (b : List ℕ) → length d.buffer ≡ length c.buf
 unfolding wrote
 writing c d b h = accepting c _ b 0 0 refl h
 
-either : (c : Controller) (x : Bool) (o o' p p' : Outcome) → Blind c o o' → Blind c p p' → Blind c (if x then o else p) (if x then o' else p')
-unfolding if◌then◌else◌
+either : (c : Controller) (x : Bool) (o o' p p' : Outcome) → Blind c o o' → Blind c p p' → Blind c (when x then o else p) (when x then o' else p')
+unfolding when◌then◌else◌
 either c true o o' p p' f g = f
 either c false o o' p p' f g = g
 
@@ -192,8 +192,8 @@ pub record Reading (c : Controller) (b : List ℕ) : Type 0 where
 
 -- a choice between rules, each knowing the test's outcome
 branch : (c : Controller) (x : Bool) (o o' p p' : Outcome) → (x ≡ true → Blind c o o') → (x ≡ false → Blind c p p') →
-    Blind c (if x then o else p) (if x then o' else p')
-unfolding if◌then◌else◌
+    Blind c (when x then o else p) (when x then o' else p')
+unfolding when◌then◌else◌
 branch c true o o' p p' f g = f refl
 branch c false o o' p p' f g = g refl
 
@@ -206,9 +206,9 @@ outbid-found c b Nothing = search ends
 
 -- the same choice where the second test reads the byte
 both : (c : Controller) (x y y' : Bool) (o o' p p' : Outcome) → (x ≡ true → y ≡ y') → Blind c o o' → Blind c p p' →
-    Blind c (if x and y then o else p) (if x and y' then o' else p')
+    Blind c (when x and y then o else p) (when x and y' then o' else p')
 unfolding ◌and◌
-both c true y y' o o' p p' e f g = subst (λ z. Blind c (if y then o else p) (if z then o' else p')) (e refl) (either c y o o' p p' f g)
+both c true y y' o o' p p' e f g = subst (λ z. Blind c (when y then o else p) (when z then o' else p')) (e refl) (either c y o o' p p' f g)
 both c false y y' o o' p p' e f g = either c false o o' p p' f g
 
 address-lost : (c : Controller) (b : List ℕ) (byte : ℕ) → Reading c b → Blind c (address_lost c byte) (address_lost (with_buffer c b) byte)
@@ -291,8 +291,8 @@ left : (c : Controller) (o o' : Outcome) → Blind c o o' → Leaves c o o'
 left c o o' e = record { next = e.next; sized = e.sized }
 
 choose : (c : Controller) (x : Bool) (o o' p p' : Outcome) → Leaves c o o' → Leaves c p p' →
-    Leaves c (if x then o else p) (if x then o' else p')
-unfolding if◌then◌else◌
+    Leaves c (when x then o else p) (when x then o' else p')
+unfolding when◌then◌else◌
 choose c true o o' p p' f g = f
 choose c false o o' p p' f g = g
 

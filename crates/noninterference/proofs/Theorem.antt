@@ -48,8 +48,8 @@ use Rattle.noninterference.specs.OldBytes.{
   Demand3,
 }
 use Rattle.notation.proofs.Among.{among-has}
-use Rattle.notation.proofs.Cases.{if-true, if-false, and-true, and_left, and_right, split}
-use Rattle.notation.specs.Choice.{if◌then◌else◌, ◌and◌, among}
+use Rattle.notation.proofs.Cases.{when-true, when-false, and-true, and_left, and_right, split}
+use Rattle.notation.specs.Choice.{when◌then◌else◌, ◌and◌, among}
 use Rattle.runs.proofs.Begins.{begun}
 use Rattle.runs.proofs.Facts.{Facts, facts}
 use Rattle.runs.proofs.Fits.{read-bit}
@@ -73,12 +73,12 @@ handed-same job answer answer' xs xs' e f =
     go (eqb answer 0 and eqb (bit_of job.direction) 1) refl ∙ ap (λ (a : ℕ). hands_up job a xs') e
   where
     go : (b : Bool) → (eqb answer 0 and eqb (bit_of job.direction) 1) ≡ b → hands_up job answer xs ≡ hands_up job answer xs'
-    go true h = if-true _ _ _ h ∙ f (eqb-true answer 0 (and_left _ _ h)) (read-bit job.direction (and_right _ _ h)) ∙ sym (if-true _ _ _ h)
-    go false h = if-false _ _ _ h ∙ sym (if-false _ _ _ h)
+    go true h = when-true _ _ _ h ∙ f (eqb-true answer 0 (and_left _ _ h)) (read-bit job.direction (and_right _ _ h)) ∙ sym (when-true _ _ _ h)
+    go false h = when-false _ _ _ h ∙ sym (when-false _ _ _ h)
 
 hands_up_lem : (job : Job) (answer : ℕ) (xs : List ℕ) → answer ≡ 0 → job.direction ≡ Read → hands_up job answer xs ≡ take job.n xs
 unfolding hands_up bit_of
-hands_up_lem job answer xs e r = if-true _ _ _ (and-true _ _ (eq-eqb answer 0 e) (ap (λ (d : Direction). eqb (bit_of d) 1) r))
+hands_up_lem job answer xs e r = when-true _ _ _ (and-true _ _ (eq-eqb answer 0 e) (ap (λ (d : Direction). eqb (bit_of d) 1) r))
 
 -- What two reports have in common.
 pub record ReportSame (r r' : Report) : Type 0 where
@@ -138,8 +138,8 @@ module _ (q : GivenJob) (m : malformed q.job (length q.payload) q.destination_le
       (h ∙ f.0, ap length h ∙ length-take-le q.job.n (runs c).fetched (subst (λ (k : ℕ). q.job.n ≤ k) (sym f.1) n))
 
 same_if : (b b' : Bool) (x x' y y' : Report) → b ≡ b' → (b ≡ true → ReportSame x x') → (b ≡ false → ReportSame y y') →
-    ReportSame (if b then x else y) (if b' then x' else y')
-unfolding if◌then◌else◌
+    ReportSame (when b then x else y) (when b' then x' else y')
+unfolding when◌then◌else◌
 same_if true true x x' y y' e f g = f refl
 same_if true false x x' y y' e f g = absurd (true≢false e)
 same_if false true x x' y y' e f g = absurd (false≢true e)

@@ -13,7 +13,7 @@ use Rattle.controller.specs.declared.record.Controller.{Controller}
 use Rattle.driver.specs.Run.{taking}
 use Rattle.answer.specs.declared.ending.Ending.TheVariants.{Reset}
 use Rattle.noninterference.proofs.Blind.{blank, Blind, Leaves, Reading, write_blind, event_blind, read_blind, fetch_blind}
-use Rattle.notation.specs.Choice.{if◌then◌else◌, among}
+use Rattle.notation.specs.Choice.{when◌then◌else◌, among}
 use Rattle.service.specs.Act.{
   Act,
   writes,
@@ -143,8 +143,8 @@ performs-same : (w : Work) (p p' : Progress) → Same p p' → Same (performs w 
 unfolding performs
 performs-same w p p' s = follows_same w.after _ _ (all_same w.acts p p' s)
 
-either : (b : Bool) (p p' q q' : Progress) → Same p p' → Same q q' → Same (if b then p else q) (if b then p' else q')
-unfolding if◌then◌else◌
+either : (b : Bool) (p p' q q' : Progress) → Same p p' → Same q q' → Same (when b then p else q) (when b then p' else q')
+unfolding when◌then◌else◌
 either true p p' q q' s t = s
 either false p p' q q' s t = t
 
@@ -157,7 +157,7 @@ serve-same table event p p' s =
     (either _ _ _ _ _ s (performs-same _ p p' s)))))
   where
     at : ℕ → ℕ → Progress → Progress
-    at status count q = if eqb status 0xF8 then q else performs (table status count) q
+    at status count q = when eqb status 0xF8 then q else performs (table status count) q
 
 pub starts-same : (acts : List Act) (c c' : Controller) → Twin c c' → Same (starts acts c) (starts acts c')
 unfolding starts starting

@@ -13,8 +13,8 @@ use Rattle.controller.specs.Transfer.{cursor}
 use Rattle.controller.specs.declared.record.Controller.{Controller}
 use Rattle.driver.specs.Run.{run}
 use Rattle.notation.proofs.Among.{has, among-has, within, one_of, clash}
-use Rattle.notation.proofs.Cases.{if-true}
-use Rattle.notation.specs.Choice.{if◌then◌else◌, among}
+use Rattle.notation.proofs.Cases.{when-true}
+use Rattle.notation.specs.Choice.{when◌then◌else◌, among}
 use Rattle.noninterference.proofs.Blind.{Reading}
 use Rattle.noninterference.proofs.Twin.{Twin, Same}
 use Rattle.noninterference.proofs.TwoRuns.{RunSame, Kept, run-same}
@@ -53,13 +53,13 @@ module _ (table : Table) {room places : ℕ} {job : Job} (payload : List ℕ) (f
           pick (inr e) = clash _ job_turns (slave_send ∷ []) tt g.turn (among-has (kind c.turn) (slave_send ∷ []) ∙ ap (has (slave_send ∷ [])) e)
 
       from : In p (send ∷ []) →
-          place c (if c.control.mode then c.moved else 0) ≡ get_or p'.controller.buffer (if c.control.mode then c.moved else 0) 0
+          place c (when c.control.mode then c.moved else 0) ≡ get_or p'.controller.buffer (when c.control.mode then c.moved else 0) 0
       from a =
           let buffer' = p'.controller.buffer in
           let b = below-count c g.whole.sound (within _ (send ∷ []) data_turns tt a) (g.sending a).0 in
           let n = byte-count payload form g in
           let low : c.moved < job.n = omega (arith, b, n) in
-          let k = if-true c.control.mode c.moved 0 (g.sending a).0 in
+          let k = when-true c.control.mode c.moved 0 (g.sending a).0 in
           ap (λ (i : ℕ). get_or c.buffer i 0) k ∙ sym (get_or-take job.n c.buffer c.moved 0 low) ∙
           ap (λ (l : List ℕ). get_or l c.moved 0) ((g.sending a).2 ∙ sym (g'.sending (along (send ∷ []) a)).2) ∙
           get_or-take job.n buffer' c.moved 0 low ∙ ap (λ (i : ℕ). get_or buffer' i 0) (sym k)

@@ -9,7 +9,7 @@ use Rattle.controller.specs.Event.{event_of}
 use Rattle.driver.specs.Run.{Run, closes, breaks, sending, taking, run}
 use Rattle.noninterference.proofs.Blind.{Reading}
 use Rattle.noninterference.proofs.Twin.{Twin, flip, event-alike, twins, Same, taking-same, serve-same}
-use Rattle.notation.specs.Choice.{if◌then◌else◌}
+use Rattle.notation.specs.Choice.{when◌then◌else◌}
 use Rattle.service.specs.Serve.{Table, serve}
 use Rattle.service.specs.declared.progress.Progress.{Progress}
 
@@ -44,20 +44,20 @@ sending-same event value value' r r' e s =
       count = s.count;
       events = s.events;
       sent =
-          ap (λ (v : ℕ). if eqb event 6 then v ∷ r.sent else r.sent) e ∙
-          ap (λ (l : List ℕ). if eqb event 6 then value' ∷ l else l) s.sent;
+          ap (λ (v : ℕ). when eqb event 6 then v ∷ r.sent else r.sent) e ∙
+          ap (λ (l : List ℕ). when eqb event 6 then value' ∷ l else l) s.sent;
     }
 
 -- the same test on both sides
 both : (b : Bool) (x x' y y' : Run) → (b ≡ true → RunSame x x') → (b ≡ false → RunSame y y') →
-    RunSame (if b then x else y) (if b then x' else y')
-unfolding if◌then◌else◌
+    RunSame (when b then x else y) (when b then x' else y')
+unfolding when◌then◌else◌
 both true x x' y y' f g = f refl
 both false x x' y y' f g = g refl
 
 choose : (b b' : Bool) (x x' y y' : Run) → b ≡ b' → (b ≡ true → RunSame x x') → (b ≡ false → RunSame y y') →
-    RunSame (if b then x else y) (if b' then x' else y')
-choose b b' x x' y y' e f g = subst (λ (z : Bool). RunSame (if b then x else y) (if z then x' else y')) e (both b x x' y y' f g)
+    RunSame (when b then x else y) (when b' then x' else y')
+choose b b' x x' y y' e f g = subst (λ (z : Bool). RunSame (when b then x else y) (when z then x' else y')) e (both b x x' y y' f g)
 
 -- an accepted pair, served
 abbrev pub after : Table → Progress → ℕ → ℕ → Progress

@@ -8,8 +8,8 @@ use Prim.Native.Nat.{ℕ}
 use borrow.Author.Tests.{eqb-true, ne_eqb}
 use lib.Dec.{T, eqb}
 use types.Run.{OneOf}
-use Rattle.notation.specs.Choice.{if◌then◌else◌, among}
-use Rattle.notation.proofs.Cases.{if-false}
+use Rattle.notation.specs.Choice.{when◌then◌else◌, among}
+use Rattle.notation.proofs.Cases.{when-false}
 
 -- `among` as a test that computes on numerals with nothing unfolded
 abbrev pub has : List ℕ → ℕ → Bool
@@ -49,11 +49,11 @@ every_tail f k ks t = go (f k) t
     go false s = absurd s
 
 pub among-has : (x : ℕ) (ls : List ℕ) → among x ls ≡ has ls x
-unfolding among if◌then◌else◌
+unfolding among when◌then◌else◌
 among-has x [] = refl
 among-has x (k ∷ ks) = step (eqb x k) (among-has x ks)
   where
-    step : (b : Bool) → among x ks ≡ has ks x → (if b then true else among x ks) ≡ elim b [ true ↦ true | false ↦ has ks x ]
+    step : (b : Bool) → among x ks ≡ has ks x → (when b then true else among x ks) ≡ elim b [ true ↦ true | false ↦ has ks x ]
     step true e = refl
     step false e = e
 
@@ -72,8 +72,8 @@ keys_in ks x h v ls t = among-has x ls ∙ passes (has ls) v ks x h t
 pub none_of : (ks : List ℕ) (x : ℕ) → (OneOf ks x → ⊥) → among x ks ≡ false
 unfolding among
 none_of [] x n = refl
-none_of (k ∷ []) x n = if-false (eqb x k) true (among x []) (ne_eqb x k n) ∙ refl
-none_of (k ∷ j ∷ ks) x n = if-false (eqb x k) true (among x (j ∷ ks)) (ne_eqb x k (λ e. n (inl e))) ∙ none_of (j ∷ ks) x (λ e. n (inr e))
+none_of (k ∷ []) x n = when-false (eqb x k) true (among x []) (ne_eqb x k n) ∙ refl
+none_of (k ∷ j ∷ ks) x n = when-false (eqb x k) true (among x (j ∷ ks)) (ne_eqb x k (λ e. n (inl e))) ∙ none_of (j ∷ ks) x (λ e. n (inr e))
 
 -- the arm of one number
 pub key_is : (k x : ℕ) → x ≡ k → (v : Bool) (j : ℕ) → eqb k j ≡ v → eqb x j ≡ v
@@ -87,7 +87,7 @@ within x (k ∷ ks) ls t e = step (eqb x k) refl (within x ks ls (every_tail (ha
   where
     step : (b : Bool) → eqb x k ≡ b → (among x ks ≡ true → among x ls ≡ true) → among x ls ≡ true
     step true q later = among-has x ls ∙ ap (has ls) (eqb-true x k q) ∙ is_true (has ls k) (every_head (has ls) k ks t)
-    step false q later = later (sym (if-false (eqb x k) true (among x ks) q) ∙ e)
+    step false q later = later (sym (when-false (eqb x k) true (among x ks) q) ∙ e)
 
 pub without : (x : ℕ) (ks ls : List ℕ) → T (every (has ls) ks) → among x ls ≡ false → among x ks ≡ false
 without x ks ls t e = step (among x ks) refl
@@ -104,12 +104,12 @@ one_of (k ∷ []) x e = step (eqb x k) refl
   where
     step : (b : Bool) → eqb x k ≡ b → x ≡ k
     step true q = eqb-true x k q
-    step false q = absurd (false≢true (sym (if-false (eqb x k) true (among x []) q) ∙ e))
+    step false q = absurd (false≢true (sym (when-false (eqb x k) true (among x []) q) ∙ e))
 one_of (k ∷ j ∷ ks) x e = step (eqb x k) refl (one_of (j ∷ ks) x)
   where
     step : (b : Bool) → eqb x k ≡ b → (among x (j ∷ ks) ≡ true → OneOf (j ∷ ks) x) → OneOf (k ∷ j ∷ ks) x
     step true q later = inl (eqb-true x k q)
-    step false q later = inr (later (sym (if-false (eqb x k) true (among x (j ∷ ks)) q) ∙ e))
+    step false q later = inr (later (sym (when-false (eqb x k) true (among x (j ∷ ks)) q) ∙ e))
 
 -- a number of one list is none of another that shares nothing with it
 pub apart : (x : ℕ) (ks ls : List ℕ) → T (every (λ k. same (has ls k) false) ks) → among x ks ≡ true → among x ls ≡ false

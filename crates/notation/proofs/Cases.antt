@@ -4,15 +4,15 @@ use mathlib.Core.Bool.{Bool, true, false, true≢false, false≢true}
 use mathlib.Core.Path.{◌≡◌, refl, sym, ◌∙◌}
 use borrow.Author.Rules.{rules}
 use borrow.Author.Tests.{lt-ltb, le-ltb, le-leb, lt-leb, eq-eqb, ne_eqb}
-use Rattle.notation.specs.Choice.{if◌then◌else◌, ◌and◌, ◌or◌}
+use Rattle.notation.specs.Choice.{when◌then◌else◌, ◌and◌, ◌or◌}
 
-pub if-true : {A : Type 0} (b : Bool) (x y : A) → b ≡ true → (if b then x else y) ≡ x
-unfolding if◌then◌else◌
-if-true b x y e = simp e
+pub when-true : {A : Type 0} (b : Bool) (x y : A) → b ≡ true → (when b then x else y) ≡ x
+unfolding when◌then◌else◌
+when-true b x y e = simp e
 
-pub if-false : {A : Type 0} (b : Bool) (x y : A) → b ≡ false → (if b then x else y) ≡ y
-unfolding if◌then◌else◌
-if-false b x y e = simp e
+pub when-false : {A : Type 0} (b : Bool) (x y : A) → b ≡ false → (when b then x else y) ≡ y
+unfolding when◌then◌else◌
+when-false b x y e = simp e
 
 pub and-true : (a b : Bool) → a ≡ true → b ≡ true → (a and b) ≡ true
 unfolding ◌and◌
@@ -73,14 +73,14 @@ or_right_off true b e = absurd (true≢false e)
 or_right_off false b e = e
 
 -- a rule is proved by its two branches, each knowing the test's outcome
-pub split : {A : Type 0} (P : A → Type 0) (b : Bool) (x y : A) → (b ≡ true → P x) → (b ≡ false → P y) → P (if b then x else y)
-unfolding if◌then◌else◌
+pub split : {A : Type 0} (P : A → Type 0) (b : Bool) (x y : A) → (b ≡ true → P x) → (b ≡ false → P y) → P (when b then x else y)
+unfolding when◌then◌else◌
 split P true x y f g = f refl
 split P false x y f g = g refl
 
 pub ruleset comparisons = (lt-ltb, le-ltb, le-leb, lt-leb, eq-eqb, ne_eqb)
 
-pub ruleset cases = (if-true, if-false, and-true, and_no_left, and_no_right, or_left, or_right, or-false, and-on, or-on, comparisons, rules)
+pub ruleset cases = (when-true, when-false, and-true, and_no_left, and_no_right, or_left, or_right, or-false, and-on, or-on, comparisons, rules)
 
 -- the same where a test is a call
 pub ruleset calls = (by_call, cases)

@@ -6,7 +6,7 @@ use Prim.Native.Nat.{ℕ}
 use lib.Dec.{ltb}
 use lib.ListN.{length}
 use Rattle.controller.specs.declared.record.Controller.{Controller}
-use Rattle.notation.proofs.Cases.{if-true, if-false}
+use Rattle.notation.proofs.Cases.{when-true, when-false}
 use Rattle.notation.specs.Overlay.{laid}
 use Rattle.perlovasta.specs.Job.{JobCall, request_report, tells, short_report, job_call_on}
 use Rattle.perlovasta.specs.ReportBytes.{report_of_job}
@@ -31,7 +31,7 @@ module _ (c : Controller) (kind address n : ℕ) (payload destination out script
   -- a report that is too short
   pub short_report_lem : ltb (length report) 12 ≡ true → Gives call 21 destination destination out out report report
   unfolding job_call_on short_report laid
-  short_report_lem e = gives short_report _ _ _ _ _ _ _ _ (if-true _ _ _ e) (refl, refl, refl, refl)
+  short_report_lem e = gives short_report _ _ _ _ _ _ _ _ (when-true _ _ _ e) (refl, refl, refl, refl)
 
   -- the job was run and reported
   pub reported : (answer : ℕ) (destination' out' report' : List ℕ) → ltb (length report) 12 ≡ false →
@@ -41,4 +41,4 @@ module _ (c : Controller) (kind address n : ℕ) (payload destination out script
       report' ≡ laid (report_of_job (request_report c kind address n payload (length destination) (length out) script)) report →
       Gives call answer destination destination' out out' report report'
   unfolding job_call_on tells
-  reported answer destination' out' report' e a h s t = gives _ _ _ _ _ _ _ _ _ (if-false _ _ _ e) (a, h, s, t)
+  reported answer destination' out' report' e a h s t = gives _ _ _ _ _ _ _ _ _ (when-false _ _ _ e) (a, h, s, t)

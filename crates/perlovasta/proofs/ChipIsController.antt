@@ -8,8 +8,8 @@ use lib.Dec.{eqb, ltb}
 use lib.ListN.{length, replicate, length-replicate}
 use Rattle.controller.specs.declared.record.Controller.{Controller}
 use Rattle.driver.specs.Run.{Result, Report, declines, job_of}
-use Rattle.notation.proofs.Cases.{if-false, split}
-use Rattle.notation.specs.Choice.{if◌then◌else◌, ◌or◌, among}
+use Rattle.notation.proofs.Cases.{when-false, split}
+use Rattle.notation.specs.Choice.{when◌then◌else◌, ◌or◌, among}
 use Rattle.notation.specs.Overlay.{laid}
 use Rattle.perlovasta.proofs.JobPlaces.{request_placed}
 use Rattle.perlovasta.specs.ChipIsController.{Asked, access, job, replied}
@@ -23,8 +23,8 @@ use Rattle.virtual_chip.proofs.Bytes.{record-long, record-places}
 use Rattle.virtual_chip.proofs.ReadBack.{Back, read_back_lem, called}
 use Rattle.virtual_chip.specs.RecordBytes.{is_record, record_of, stored}
 
-either_of : (a b : Bool) → (a or b) ≡ true → (if a then true else if b then true else false) ≡ true
-unfolding ◌or◌ if◌then◌else◌
+either_of : (a b : Bool) → (a or b) ≡ true → (when a then true else when b then true else false) ≡ true
+unfolding ◌or◌ when◌then◌else◌
 either_of true b e = refl
 either_of false true e = refl
 either_of false false e = e
@@ -55,7 +55,7 @@ unfolding result_left stored laid
 left_back m r there places leaves =
     let P : List ℕ → Type 0 = λ xs. Back r.next (laid xs m) in
     let long = record-long m there in
-    split P _ [] _ (λ e. (there, sym (leaves e))) (λ _. subst P (sym (if-false _ _ _ (le-ltb (length m) 88 long))) (read_back_lem r.next m places long))
+    split P _ [] _ (λ e. (there, sym (leaves e))) (λ _. subst P (sym (when-false _ _ _ (le-ltb (length m) 88 long))) (read_back_lem r.next m places long))
 
 -- what one call gives, and the record in the bytes after it
 pub one-call : (report : ℕ) (m : List ℕ) (x : Asked) → 12 ≤ report → is_record m ≡ true →
@@ -69,7 +69,7 @@ one-call report m (job j) room there =
     let back = left_back m r.result there
     (request_placed c j.kind j.address j.n j.payload j.destination_length j.out_length j.script (record-places m))
     (request_leaves c j.payload j.script j.kind j.address j.n j.destination_length j.out_length) in
-    (if-false _ _ _ enough, subst (λ (xs : List ℕ). Back r.result.next (laid xs m)) (sym (if-false _ _ _ enough)) back)
+    (when-false _ _ _ enough, subst (λ (xs : List ℕ). Back r.result.next (laid xs m)) (sym (when-false _ _ _ enough)) back)
 
 -- THE VIRTUAL CHIP IS THE CONTROLLER.
 pub chip_is_controller : ChipIsController

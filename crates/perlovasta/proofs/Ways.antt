@@ -20,7 +20,7 @@ use Rattle.controller.specs.declared.effect.ReadEffect.TheVariants.{Refused, Unc
 use Rattle.controller.specs.declared.effect.ReadEffect.{ReadEffect}
 use Rattle.controller.specs.declared.effect.WriteEffect.{WriteEffect}
 use Rattle.controller.specs.declared.record.Controller.{Controller}
-use Rattle.notation.specs.Choice.{if◌then◌else◌}
+use Rattle.notation.specs.Choice.{when◌then◌else◌}
 use Rattle.requests.specs.Groups.{group_of}
 use Rattle.perlovasta.specs.Log.{leaves}
 
@@ -43,17 +43,17 @@ module _ {E : Type 0} (after : Controller → E → Outcome) (c : Controller) wh
 
 module _ (c : Controller) (kind place value : ℕ) {given answer : Answer} {next : Controller} where
   pub was_read : {e f : ReadEffect} → kind ≡ 0 → Leaves after_read c (read_of c place) (group_of c kind place value) e f given answer next
-  unfolding group_of if◌then◌else◌
+  unfolding group_of when◌then◌else◌
   was_read k = rw k (left after_read c (read_of c place))
 
   pub was-written : {e f : WriteEffect} → kind ≡ 1 →
       Leaves after_write c (write_of c place value) (group_of c kind place value) e f given answer next
-  unfolding group_of if◌then◌else◌
+  unfolding group_of when◌then◌else◌
   was-written k = rw k (left after_write c (write_of c place value))
 
   pub was-event : {e f : EventEffect} → (Unit {0} × (kind ≡ 0 → ⊥)) × (kind ≡ 1 → ⊥) →
       Leaves after_event c (event_of c place value) (group_of c kind place value) e f given answer next
-  unfolding group_of if◌then◌else◌
+  unfolding group_of when◌then◌else◌
   was-event k = rw (ne_eqb kind 0 k.0.1, ne_eqb kind 1 k.1) (left after_event c (event_of c place value))
 
 -- a read that was refused, or of another register than I2CDAT

@@ -10,13 +10,13 @@ use Rattle.control.specs.declared.turn.Turn.{Turn}
 use Rattle.controller.specs.Access.{read_of}
 use Rattle.controller.specs.Reply.{Outcome}
 use Rattle.controller.specs.declared.record.Controller.{Controller}
-use Rattle.notation.specs.Choice.{if◌then◌else◌}
+use Rattle.notation.specs.Choice.{when◌then◌else◌}
 use Rattle.virtual_chip.specs.Numbers.{host_start, turn_number}
 
 -- the turn's number (crates/virtual_chip, Numbers.antt); "at A0h, whether a STOP or a START came": a START is told there alone
 unfoldable pub logged_turn : Turn → ℕ
 logged_turn turn =
-    if eqb (turn_number turn) host_start then (if eqb (status_of turn) 0xA0 then host_start else host)
+    when eqb (turn_number turn) host_start then (when eqb (status_of turn) 0xA0 then host_start else host)
     else turn_number turn
 
 -- In hexadecimal: the low digit is the pointer, the high digit the reason's number, and 8 more where the software reset is armed. (A pointer is at most
@@ -24,7 +24,7 @@ logged_turn turn =
 unfoldable pub pointer_byte : ℕ → Reason → Bool → ℕ
 pointer_byte pointer reason armed =
     let digits = 16 * reason_number reason + pointer % 16 in
-    if armed then 128 + digits else digits
+    when armed then 128 + digits else digits
 
 -- an answer in the paper's numbers, with the record after it
 unfoldable pub leaves : Answer → Controller → Outcome

@@ -2,7 +2,7 @@
 use Rattle.std.specs.Prelude.{Bool, true, false, List, [], ◌∷◌, ◌++◌, ℕ, ◌*◌, ◌/◌, ltb, length}
 use Rattle.controller.specs.Reset.{fresh}
 use Rattle.controller.specs.declared.record.Controller.{Controller}
-use Rattle.notation.specs.Choice.{if◌then◌else◌, ◌or◌}
+use Rattle.notation.specs.Choice.{when◌then◌else◌, ◌or◌}
 use Rattle.requests.specs.Groups.{group_of}
 use Rattle.perlovasta.specs.Log.{entry_of}
 
@@ -30,5 +30,5 @@ log_of c (kind ∷ place ∷ value ∷ rest) =
 -- the trace and the length of the log, which has to have eight bytes for each group: 0 for a trace that was run, else 21
 unfoldable pub trace_call : List ℕ → ℕ → TraceCall
 trace_call trace logLength =
-    if bad_trace trace or ltb logLength (8 * (length trace / 3)) then record { answer = 21; logged = [] }
+    when bad_trace trace or ltb logLength (8 * (length trace / 3)) then record { answer = 21; logged = [] }
     else record { answer = 0; logged = log_of fresh trace }

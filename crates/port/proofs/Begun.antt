@@ -4,7 +4,7 @@ use mathlib.Core.List.{List}
 use mathlib.Core.Path.{◌≡◌, refl}
 use Prim.Native.Nat.{ℕ}
 use Rattle.notation.proofs.Cases.{split}
-use Rattle.notation.specs.Choice.{if◌then◌else◌}
+use Rattle.notation.specs.Choice.{when◌then◌else◌}
 use Rattle.port.specs.Ask.{ask_for}
 use Rattle.port.specs.Begin.{start_of, recover_of}
 use Rattle.port.specs.Hear.{asks_at, asks, first_ask}
@@ -19,15 +19,15 @@ abbrev AsksFirst : List ℕ → Stand → Type 0
 AsksFirst payload s = asks s payload ≡ first_ask s
 
 pub broken-off : (payload : List ℕ) (answer : ℕ) (stale : Bool) → asks (broken_off answer stale) payload ≡ first_ask (broken_off answer stale)
-unfolding asks asks_at first_ask stage_number if◌then◌else◌
+unfolding asks asks_at first_ask stage_number when◌then◌else◌
 broken-off payload answer stale = refl
 
 control : (payload : List ℕ) (job : Job) → AsksFirst payload (stand Control job 0 0 false 27 0 false)
-unfolding asks asks_at first_ask stage_number if◌then◌else◌
+unfolding asks asks_at first_ask stage_number when◌then◌else◌
 control payload job = refl
 
 recovering : (payload : List ℕ) (n : ℕ) (stale : Bool) → AsksFirst payload (stand Recovering (no_job n) 0 0 false 27 0 stale)
-unfolding asks asks_at first_ask stage_number if◌then◌else◌ ask_for nth in_hand_at recovers
+unfolding asks asks_at first_ask stage_number when◌then◌else◌ ask_for nth in_hand_at recovers
 recovering payload n stale = refl
 
 pub start_asks : (payload : List ℕ) (s : Stand) (job : Job) (lent : ℕ) → asks (start_of s job lent) payload ≡ first_ask (start_of s job lent)

@@ -8,7 +8,7 @@ use borrow.Author.Tests.{ltb-true}
 use lib.Dec.{ltb}
 use lib.ListN.{length, get_or, take, length-append}
 use Rattle.notation.proofs.Cases.{split}
-use Rattle.notation.specs.Choice.{if◌then◌else◌}
+use Rattle.notation.specs.Choice.{when◌then◌else◌}
 use Rattle.port.proofs.Totals.{length_least, length-reads, times_fit, data_total}
 use Rattle.port.specs.InHand.{reads_from, accesses, alternates, recovers, nth}
 use Rattle.service.specs.Act.{Act, Work, writes, read_times}
@@ -62,11 +62,11 @@ length_settings register other (x ∷ xs) = ap suc (length_settings other regist
 
 -- How many accesses there are.
 
-pub least_within : (n lent : ℕ) → (if ltb n lent then n else lent) ≤ lent
+pub least_within : (n lent : ℕ) → (when ltb n lent then n else lent) ≤ lent
 least_within n lent = split (λ (k : ℕ). k ≤ lent) (ltb n lent) n lent (λ less. omega (arith, ltb-true n lent less)) (λ more. omega arith)
 
 -- of a recovery
-pub recovers-total : (n : ℕ) (xs : List ℕ) → length (recovers (take n xs)) ≡ (if ltb n (length xs) then n else length xs) + 4
+pub recovers-total : (n : ℕ) (xs : List ℕ) → length (recovers (take n xs)) ≡ (when ltb n (length xs) then n else length xs) + 4
 unfolding recovers
 recovers-total n xs =
     let settings = take n xs in

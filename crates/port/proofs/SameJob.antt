@@ -4,7 +4,7 @@ use mathlib.Core.List.{List}
 use mathlib.Core.Path.{◌≡◌, refl}
 use Prim.Native.Nat.{ℕ}
 use Rattle.notation.proofs.Cases.{split}
-use Rattle.notation.specs.Choice.{if◌then◌else◌}
+use Rattle.notation.specs.Choice.{when◌then◌else◌}
 use Rattle.port.specs.Hear.{concludes, enters, onward, looked, hears_at, hears, next_of}
 use Rattle.port.specs.declared.stage.Stage.TheVariants.{Over, Control, Status, First, Waiting, Look, Interrupted, Working, Recovering, Pausing, Recheck}
 use Rattle.port.specs.declared.stage.Stage.{Stage}
@@ -19,7 +19,7 @@ concluded (awaits ending) s = refl
 concluded (ends ending) s = refl
 concluded finishes s = refl
 
-either : {job : Job} (b : Bool) (x y : Stand) → x.job ≡ job → y.job ≡ job → (if b then x else y).job ≡ job
+either : {job : Job} (b : Bool) (x y : Stand) → x.job ≡ job → y.job ≡ job → (when b then x else y).job ≡ job
 either {job} b x y f g = split (λ (s : Stand). s.job ≡ job) b x y (λ _. f) (λ _. g)
 
 heard : (x : Stage) (s : Stand) (payload : List ℕ) (value : ℕ) → (hears_at x s payload value).job ≡ s.job

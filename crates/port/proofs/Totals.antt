@@ -11,7 +11,7 @@ use lib.ListN.{length, get_or, take, length-append, length-map}
 use lib.Seq.{length-take-le, take_all}
 use types.Run.{OneOf}
 use Rattle.notation.proofs.Cases.{split}
-use Rattle.notation.specs.Choice.{if◌then◌else◌}
+use Rattle.notation.specs.Choice.{when◌then◌else◌}
 use Rattle.port.specs.InHand.{reads_from, accesses, nth}
 use Rattle.service.specs.Act.{Act, writes, reads_data, reads_count, counts, Work, read_times}
 use Rattle.service.specs.JobTable.{job_table}
@@ -48,13 +48,13 @@ nth_last (x ∷ y ∷ ys) last zero h = absurd (omega arith)
 nth_last (x ∷ y ∷ ys) last (suc k) h = nth_last (y ∷ ys) last k (omega arith)
 
 -- n bytes, of so many that there are
-pub length_least : (n : ℕ) (xs : List ℕ) → length (take n xs) ≡ (if ltb n (length xs) then n else length xs)
+pub length_least : (n : ℕ) (xs : List ℕ) → length (take n xs) ≡ (when ltb n (length xs) then n else length xs)
 length_least n xs =
     split (λ (k : ℕ). length (take n xs) ≡ k) (ltb n (length xs)) n (length xs)
     (λ less. length-take-le n xs (omega (arith, ltb-true n (length xs) less)))
     (λ more. ap length (take_all n xs (ltb-false n (length xs) more)))
 
-pub least_fits : (n lent : ℕ) → (if ltb n lent then n else lent) ≤ n
+pub least_fits : (n lent : ℕ) → (when ltb n lent then n else lent) ≤ n
 least_fits n lent = split (λ (k : ℕ). k ≤ n) (ltb n lent) n lent (λ less. omega arith) (λ more. ltb-false n lent more)
 
 pub times_fit : (n : ℕ) → read_times n ≤ 68
@@ -81,7 +81,7 @@ data_accesses count [] ys = refl
 data_accesses count (x ∷ xs) ys = ap (λ (zs : List Act). writes 1 x ∷ zs) (data_accesses count xs ys)
 
 pub data_total : (count n : ℕ) (payload : List ℕ) →
-    length (accesses count (map (writes 1) (take n payload) ++ (writes 3 0x41 ∷ []))) ≡ (if ltb n (length payload) then n else length payload) + 1
+    length (accesses count (map (writes 1) (take n payload) ++ (writes 3 0x41 ∷ []))) ≡ (when ltb n (length payload) then n else length payload) + 1
 unfolding accesses
 data_total count n payload = simp (data_accesses, length-append, length-map, length_least)
 

@@ -1,7 +1,7 @@
 -- Handing up: a step of its own, after the job is over.
 use Rattle.std.specs.Prelude.{Bool, not, List, [], ℕ, eqb, ltb, take}
 use Rattle.address.specs.Number.{bit_of}
-use Rattle.notation.specs.Choice.{if◌then◌else◌, ◌or◌}
+use Rattle.notation.specs.Choice.{when◌then◌else◌, ◌or◌}
 use Rattle.port.specs.Stage.{over, stage_number}
 use Rattle.port.specs.declared.stand.Stand.{Stand}
 
@@ -16,12 +16,12 @@ nothing answer = record { answer = answer; handed = [] }
 -- Of a job answered 0: its n bytes where it was a read, and 21 where it was none or the destination is too short. (R is 1 for a read.)
 unfoldable pub take_done : Stand → List ℕ → ℕ → Taken
 take_done s fetched destination_length =
-    if not (eqb (bit_of s.job.direction) 1) or ltb destination_length s.job.n then nothing 21
+    when not (eqb (bit_of s.job.direction) 1) or ltb destination_length s.job.n then nothing 21
     else record { answer = 0; handed = take s.job.n fetched }
 
 -- of any other nothing, and why: 27 while it lasts, then its own answer
 unfoldable pub take_of : Stand → List ℕ → ℕ → Taken
 take_of s fetched destination_length =
-    if not (eqb (stage_number s.stage) over) then nothing 27
-    else if not (eqb s.answer 0) then nothing s.answer
+    when not (eqb (stage_number s.stage) over) then nothing 27
+    else when not (eqb s.answer 0) then nothing s.answer
     else take_done s fetched destination_length

@@ -1,6 +1,6 @@
 -- What the port last asked for, as a number: for the state's bytes. A number that no stage has is read as Over.
 use Rattle.std.specs.Prelude.{ℕ, eqb}
-use Rattle.notation.specs.Choice.{if◌then◌else◌}
+use Rattle.notation.specs.Choice.{when◌then◌else◌}
 use Rattle.port.specs.declared.stage.Stage.TheVariants.{Over, Control, Status, First, Waiting, Look, Interrupted, Working, Recovering, Pausing, Recheck}
 use Rattle.port.specs.declared.stage.Stage.{Stage}
 
@@ -25,14 +25,14 @@ stage_number Recheck = 10
 
 unfoldable pub stage_for : ℕ → Stage
 stage_for k =
-    if eqb k 1 then Control
-    else if eqb k 2 then Status
-    else if eqb k 3 then First
-    else if eqb k 4 then Waiting
-    else if eqb k 5 then Look
-    else if eqb k 6 then Interrupted
-    else if eqb k 7 then Working
-    else if eqb k 8 then Recovering
-    else if eqb k 9 then Pausing
-    else if eqb k 10 then Recheck
+    when eqb k 1 then Control
+    else when eqb k 2 then Status
+    else when eqb k 3 then First
+    else when eqb k 4 then Waiting
+    else when eqb k 5 then Look
+    else when eqb k 6 then Interrupted
+    else when eqb k 7 then Working
+    else when eqb k 8 then Recovering
+    else when eqb k 9 then Pausing
+    else when eqb k 10 then Recheck
     else Over

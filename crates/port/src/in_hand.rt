@@ -1,6 +1,6 @@
 // The accesses in hand: how many there are, at which place a value is noted, and what follows on the last.
 ghost use Rattle.std.specs.Prelude.{List, ◌≡◌, ℕ, ◌+◌, ◌≤◌, ltb, length};
-ghost use Rattle.notation.specs.Choice.{if◌then◌else◌};
+ghost use Rattle.notation.specs.Choice.{when◌then◌else◌};
 ghost use Rattle.port.specs.Hear.{noted_at, concludes};
 ghost use Rattle.port.specs.InHand.{accesses, line, nth, count_after};
 ghost use Rattle.port.specs.Stand.{at_stage, advanced};
@@ -12,7 +12,7 @@ use crate::stand::Stand;
 
 // n bytes, of so many that are lent.
 pub fn least(n: u8, lent: usize) -> usize
-    ensures { result ≡ (if ltb n lent then n else lent) }
+    ensures { result ≡ (when ltb n lent then n else lent) }
 {
     let all = n as usize;
     if all < lent { all } else { lent }
@@ -82,7 +82,7 @@ impl Stand {
     // The next of so many accesses, or after the last another stage.
     pub(crate) fn onward(self, total: usize, stage: Stage) -> Stand
         requires { total ≤ 255 }
-        ensures { result ≡ (if ltb (self.made + 1) total then advanced self else at_stage self stage) }
+        ensures { result ≡ (when ltb (self.made + 1) total then advanced self else at_stage self stage) }
     {
         let more = (self.made as usize) + 1 < total;
         if more {

@@ -8,8 +8,8 @@ use lib.Dec.{eqb}
 use lib.ListN.{length, replicate}
 use Rattle.address.specs.declared.number.Direction.TheVariants.{Write, Read}
 use Rattle.address.specs.declared.number.Direction.{Direction}
-use Rattle.notation.proofs.Cases.{if-false, split}
-use Rattle.notation.specs.Choice.{if◌then◌else◌, among}
+use Rattle.notation.proofs.Cases.{when-false, split}
+use Rattle.notation.specs.Choice.{when◌then◌else◌, among}
 use Rattle.port.specs.Begin.{unfit, start_of, give_up_of}
 use Rattle.port.specs.Hear.{hears, hears_at, asks, asks_at}
 use Rattle.port.specs.Look.{meets}
@@ -76,13 +76,13 @@ pub old_state_unseen : OldStateUnseen
 unfolding started start_of
 old_state_unseen p q job bytes e =
     ap {B = Port} (λ (b : Bool). record {
-      stand = if unfit job (length bytes) then broken_off 21 b else if b then broken_off 22 true else stand Control job 0 0 false 27 0 false;
+      stand = when unfit job (length bytes) then broken_off 21 b else when b then broken_off 22 true else stand Control job 0 0 false 27 0 false;
       payload = padded (kept_data job.direction job.n bytes);
       fetched = replicate 68 0;
     }) e
 
 no_f8 : (d : Direction) → among 0xF8 (meets d) ≡ false
-unfolding among if◌then◌else◌
+unfolding among when◌then◌else◌
 no_f8 Write = refl
 no_f8 Read = refl
 
@@ -90,5 +90,5 @@ pub waits-on : WaitsOn
 unfolding step hears hears_at asks asks_at
 waits-on p e =
     let s = p.stand in
-    let waits = ap (λ (x : Stage). hears_at x s p.payload 0xF8) e ∙ if-false _ _ (at_stage s Waiting) (no_f8 s.job.direction) in
+    let waits = ap (λ (x : Stage). hears_at x s p.payload 0xF8) e ∙ when-false _ _ (at_stage s Waiting) (no_f8 s.job.direction) in
     (waits, ap (λ (t : Stand). asks t p.payload) waits)

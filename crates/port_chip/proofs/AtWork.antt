@@ -12,7 +12,7 @@ use lib.Seq.{set_out, take-suc-set}
 use Rattle.answer.specs.Ending.{number_of}
 use Rattle.answer.specs.declared.ending.Ending.TheVariants.{Done}
 use Rattle.notation.proofs.Cases.{and-on, and_right, split}
-use Rattle.notation.specs.Choice.{if◌then◌else◌}
+use Rattle.notation.specs.Choice.{when◌then◌else◌}
 use Rattle.port.specs.Ask.{ask_for}
 use Rattle.port.specs.Hear.{concludes, next_of, hears_at, hears, noted_at, asks_at, asks}
 use Rattle.port.specs.InHand.{in_hand_at, nth, place_of, count_after}
@@ -59,7 +59,7 @@ Heard sofar fetched value s xs after =
     let a = nth xs s.made in
     let t = with_count (at_stage s Working) (count_after a s.count value) in
     OfJob (sofar ++ ((ask_for a gave value) ∷ [])) (set fetched (place_of a) value)
-    (if ltb (s.made + 1) (length xs) then next_of t (length xs) else concludes after t)
+    (when ltb (s.made + 1) (length xs) then next_of t (length xs) else concludes after t)
 
 module _ {sofar : List Exchange} {fetched : List ℕ} (value : ℕ) where
   -- one of the accesses at the status at which the job is done
@@ -139,7 +139,7 @@ module _ (sofar : List Exchange) (fetched : List ℕ) (payload : List ℕ) (valu
 
   -- at whatever status
   pub at-work : (s : Stand) → OfJob sofar fetched (at_stage s Working) → Hears (at_stage s Working)
-  unfolding hears hears_at asks asks_at noted_at stage_number if◌then◌else◌ in_hand_at
+  unfolding hears hears_at asks asks_at noted_at stage_number when◌then◌else◌ in_hand_at
   at-work s r =
       let d = s.job.direction in
       let line = job_table s.job payload s.status s.count in

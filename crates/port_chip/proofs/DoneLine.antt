@@ -13,8 +13,8 @@ use Rattle.address.specs.declared.number.Direction.{Direction}
 use Rattle.answer.specs.Ending.{number_of}
 use Rattle.answer.specs.declared.ending.Ending.TheVariants.{Done}
 use Rattle.notation.proofs.Among.{every, same, one_of, passes}
-use Rattle.notation.proofs.Cases.{if-false, or-on}
-use Rattle.notation.specs.Choice.{if◌then◌else◌, ◌or◌, among}
+use Rattle.notation.proofs.Cases.{when-false, or-on}
+use Rattle.notation.specs.Choice.{when◌then◌else◌, ◌or◌, among}
 use Rattle.port.specs.InHand.{reads_from, accesses, nth}
 use Rattle.port.specs.Look.{meets}
 use Rattle.port_chip.proofs.InHand.{length-reads}
@@ -47,13 +47,13 @@ fetches n = reads_from n 0 ++ (writes 3 0x50 ∷ [])
 module _ (job : Job) (payload : List ℕ) (status count : ℕ) where
   pub in_hand_when_done : (d : Direction) → status ≡ done_status d → job.n ≤ 68 →
       accesses count (job_table job payload status count).acts ≡ fetches (to_read d job.n)
-  unfolding job_table accesses among if◌then◌else◌ read_times reads_from
+  unfolding job_table accesses among when◌then◌else◌ read_times reads_from
   in_hand_when_done Write e h = ap (λ (k : ℕ). accesses count (job_table job payload k count).acts) e
   in_hand_when_done Read e h =
-      ap (λ (k : ℕ). accesses count (job_table job payload k count).acts) e ∙ ap fetches (if-false (ltb 68 job.n) 68 job.n (le-ltb 68 job.n h))
+      ap (λ (k : ℕ). accesses count (job_table job payload k count).acts) e ∙ ap fetches (when-false (ltb 68 job.n) 68 job.n (le-ltb 68 job.n h))
 
   pub after-done : (d : Direction) → status ≡ done_status d → (job_table job payload status count).after ≡ awaits Done
-  unfolding job_table among if◌then◌else◌
+  unfolding job_table among when◌then◌else◌
   after-done Write e = ap (λ (k : ℕ). (job_table job payload k count).after) e
   after-done Read e = ap (λ (k : ℕ). (job_table job payload k count).after) e
 
@@ -101,7 +101,7 @@ module _ (job : Job) (payload : List ℕ) (count : ℕ) where
   done_or_fruitless d status = eqb status (done_status d) or fruitless (job_table job payload status count).after
 
   all_lines : (d : Direction) → T (every (λ k. same (done_or_fruitless d k) true) (meets d))
-  unfolding job_table among if◌then◌else◌ ◌or◌
+  unfolding job_table among when◌then◌else◌ ◌or◌
   all_lines Write = tt
   all_lines Read = tt
 

@@ -10,7 +10,7 @@ use lib.ListN.{length, take, length-append, length-take, length-map}
 use Rattle.answer.specs.declared.ending.Ending.TheVariants.{Done}
 use Rattle.notation.proofs.Among.{is_true}
 use Rattle.notation.proofs.Cases.{split}
-use Rattle.notation.specs.Choice.{if◌then◌else◌}
+use Rattle.notation.specs.Choice.{when◌then◌else◌}
 use Rattle.port.specs.InHand.{reads_from, accesses, alternates, recovers}
 use Rattle.service.specs.Act.{Act, writes, reads_all, counts, Work, read_times}
 use Rattle.service.specs.JobSteps.{go_on_after, stop_after}
@@ -45,7 +45,7 @@ has_just w xs e h = record { same = λ count other. e count ∙ sym (e other); f
 plain : (w : Work) → ((count other : ℕ) → accesses count w.acts ≡ accesses other w.acts) → T (leb (length (accesses 0 w.acts)) 69) → Settled w
 plain w e t = has_just w (accesses 0 w.acts) (λ count. e count 0) (leb-true _ 69 (is_true _ t))
 
-chosen : (b : Bool) (x y : Work) → Settled x → Settled y → Settled (if b then x else y)
+chosen : (b : Bool) (x y : Work) → Settled x → Settled y → Settled (when b then x else y)
 chosen b x y f g = split Settled b x y (λ _. f) (λ _. g)
 
 module _ (job : Job) (payload : List ℕ) (short : length payload ≤ 68) where

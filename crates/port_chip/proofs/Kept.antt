@@ -10,7 +10,7 @@ use lib.ListN.{length, take, set}
 use Rattle.address.specs.declared.number.Direction.TheVariants as direction
 use Rattle.address.specs.declared.number.Direction.{Direction}
 use Rattle.notation.proofs.Cases.{and-true, and_left, and_right, split}
-use Rattle.notation.specs.Choice.{if◌then◌else◌, among}
+use Rattle.notation.specs.Choice.{when◌then◌else◌, among}
 use Rattle.port.specs.Ask.{ask_for}
 use Rattle.port.specs.Hear.{enters, onward, looked, hears_at, hears, noted_at, asks_at, asks}
 use Rattle.port.specs.InHand.{in_hand, notes}
@@ -32,7 +32,7 @@ use Rattle.service.specs.Act.{Act, writes, reads_data, reads_all, reads_count, c
 use Rattle.service.specs.JobTable.{job_table}
 
 reads-control : is_look (Read 3) ≡ true
-unfolding is_look among if◌then◌else◌
+unfolding is_look among when◌then◌else◌
 reads-control = refl
 
 -- an access is not the end
@@ -54,7 +54,7 @@ none_read direction.Write n h e = tt
 none_read direction.Read n h e = absurd (omega (arith, e))
 
 chosen : {sofar : List Exchange} {fetched : List ℕ} (b : Bool) {x y : Stand} → OfJob sofar fetched x → OfJob sofar fetched y →
-    OfJob sofar fetched (if b then x else y)
+    OfJob sofar fetched (when b then x else y)
 chosen {sofar} {fetched} b {x} {y} f g = split (OfJob sofar fetched) b x y (λ _. f) (λ _. g)
 
 module _ (sofar : List Exchange) (fetched : List ℕ) (payload : List ℕ) (value : ℕ) where
@@ -146,7 +146,7 @@ module _ (sofar : List Exchange) (fetched : List ℕ) (payload : List ℕ) (valu
       (unnoted places value r))
 
   pub stepped : (x : Stage) (s : Stand) → OfJob sofar fetched (at_stage s x) → Stepped (at_stage s x)
-  unfolding hears hears_at asks asks_at noted_at stage_number if◌then◌else◌ onward is_over is_look among
+  unfolding hears hears_at asks asks_at noted_at stage_number when◌then◌else◌ onward is_over is_look among
   stepped Over s r = stays refl refl refl
   stepped Control s r =
       notes-nothing r.places refl refl

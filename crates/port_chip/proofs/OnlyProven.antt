@@ -11,7 +11,7 @@ use lib.Seq.{append_snoc, set_out, length-take-le}
 use Rattle.address.specs.Number.{bit_of}
 use Rattle.address.specs.declared.number.Direction.TheVariants.{Write, Read}
 use Rattle.address.specs.declared.number.Direction.{Direction}
-use Rattle.notation.proofs.Cases.{if-true, if-false, or-left-off, split}
+use Rattle.notation.proofs.Cases.{when-true, when-false, or-left-off, split}
 use Rattle.port.specs.HandUp.{Taken, take_done, take_of}
 use Rattle.port.specs.Hear.{noted_at, asks_at, asks}
 use Rattle.port.specs.Port.{Port, step, asking, taken}
@@ -35,7 +35,7 @@ use Rattle.service.specs.declared.job.Job.{Job}
 no_more : (values : List ℕ) (p : Port) → is_over (asking p) ≡ true → passed p values ≡ []
 unfolding passed
 no_more [] p o = refl
-no_more (value ∷ values) p o = if-true _ _ _ o
+no_more (value ∷ values) p o = when-true _ _ _ o
 
 abbrev Shown : List Exchange → Port → Type 0
 Shown sofar p = OfJob sofar p.fetched p.stand
@@ -55,7 +55,7 @@ one-step sofar p value values r (stays o e n) later =
     (subst (λ (xs : List Exchange). Shown (sofar ++ xs) (after_all p values)) (no_more values p o ∙ sym (no_more (value ∷ values) p o)) (later sofar p r))
 one-step sofar p value values r (goes o h) later =
     subst (λ (xs : List Exchange). Shown xs (after_all (step p value) values))
-    (append_snoc sofar (asking p gave value) (passed (step p value) values) ∙ ap (λ (xs : List Exchange). sofar ++ xs) (sym (if-false _ _ _ o)))
+    (append_snoc sofar (asking p gave value) (passed (step p value) values) ∙ ap (λ (xs : List Exchange). sofar ++ xs) (sym (when-false _ _ _ o)))
     (later (sofar ++ ((asking p gave value) ∷ [])) (step p value) h)
 
 all_steps : (values : List ℕ) (sofar : List Exchange) (p : Port) → Shown sofar p → Shown (sofar ++ passed p values) (after_all p values)

@@ -1,6 +1,6 @@
 -- What passes between the port and whatever answers it: a chip by the rules, a faulty one, or none.
 use Rattle.std.specs.Prelude.{Bool, true, false, List, [], ◌∷◌, ℕ}
-use Rattle.notation.specs.Choice.{if◌then◌else◌, ◌or◌}
+use Rattle.notation.specs.Choice.{when◌then◌else◌, ◌or◌}
 unfoldable pub use Rattle.port.specs.Ask.{no_access}
 unfoldable pub use Rattle.port.specs.Port.{after_all}
 use Rattle.port.specs.Port.{Port, step, asking}
@@ -27,7 +27,7 @@ abbrev pub ◌gave◌ : Ask → ℕ → Exchange
 -- the exchanges until it is over
 unfoldable pub passed : Port → List ℕ → List Exchange
 passed p [] = []
-passed p (value ∷ values) = if is_over (asking p) then [] else (record { asked = asking p; heard = value } ∷ passed (step p value) values)
+passed p (value ∷ values) = when is_over (asking p) then [] else (record { asked = asking p; heard = value } ∷ passed (step p value) values)
 
 -- somewhere among what is asked for, from now on to the last of these values, there is no access
 unfoldable pub rests : Port → List ℕ → Bool

@@ -9,7 +9,7 @@ use lib.ListN.{length}
 use Rattle.control.specs.declared.flags.Control.{Control}
 use Rattle.controller.specs.declared.record.Controller.{Controller}
 use Rattle.driver.specs.Run.{Run, reports, job_of}
-use Rattle.notation.proofs.Cases.{if-true, if-false, and_left, and_right}
+use Rattle.notation.proofs.Cases.{when-true, when-false, and_left, and_right}
 use Rattle.port_job.proofs.JobsAlone.{whole-fits}
 use Rattle.port_job.proofs.OneJob.{gives-job}
 use Rattle.port_job.proofs.Ready.{not-true, waiting-calm, waiting-looks}
@@ -42,9 +42,9 @@ amid_traffic asked payload traffic script p c u n even r a z l t =
     waiting-looks d m.waits.still-sound m.waits.turn (same (λ k. k.ensio) ∙ and_left _ _ flags)
     (same (λ k. k.sta) ∙ not-true _ (and_right _ _ flags)) (same (λ k. k.sto) ∙ z) in
     let gives = (gives-job asked payload script (at p d) m.waits.still-sound (ap length m.buffer ∙ l) (λ _. waiting-calm m.waits.turn)).same in
-    let begins = if-false _ _ _ n ∙ if-false _ _ _ u ∙ if-true _ _ _ looks in
+    let begins = when-false _ _ _ n ∙ when-false _ _ _ u ∙ when-true _ _ _ looks in
     let whole = whole-fits asked (length payload) (length (traffic ++ script)) (ap (λ (k : ℕ). eqb k 1) (whole-after traffic script c t) ∙ even) in
-    let theirs = if-false _ _ _ (whole ∙ n) ∙ if-true _ _ _ r in (
+    let theirs = when-false _ _ _ (whole ∙ n) ∙ when-true _ _ _ r in (
       looks,
       ap (later_report (pairs traffic)) (gives ∙ begins) ∙ reports-later asked (pairs traffic) _
           ∙ ap (reports asked) (sym (traffic_first asked payload traffic script c r a t)) ∙ sym theirs,

@@ -7,7 +7,7 @@ use borrow.Author.Tests.{eq-eqb, ne_eqb}
 use lib.Dec.{eqb}
 use Rattle.control.specs.Flags.{flags_of, weighs, reads_as}
 use Rattle.control.specs.declared.flags.Control.{Control}
-use Rattle.notation.specs.Choice.{if◌then◌else◌}
+use Rattle.notation.specs.Choice.{when◌then◌else◌}
 use Rattle.port.specs.Look.{interrupt_in}
 
 abbrev bit : Bool → ℕ
@@ -23,7 +23,7 @@ is_bit x true e = eq-eqb x 1 e
 is_bit x false e = ne_eqb x 1 (omega (arith, e))
 
 weight : (b : Bool) (n : ℕ) → weighs b n ≡ n * bit b
-unfolding weighs if◌then◌else◌
+unfolding weighs when◌then◌else◌
 weight true n = omega arith
 weight false n = omega arith
 

@@ -8,8 +8,8 @@ use native.Mathlib.Omega.{arith}
 use borrow.Author.Tests.{lt-ltb, le-ltb}
 use lib.Dec.{T, ltb}
 use lib.ListN.{length, drop, length-drop}
-use Rattle.notation.proofs.Cases.{if-true, if-false}
-use Rattle.notation.specs.Choice.{if◌then◌else◌}
+use Rattle.notation.proofs.Cases.{when-true, when-false}
+use Rattle.notation.specs.Choice.{when◌then◌else◌}
 use Rattle.port.specs.InHand.{nth}
 use Rattle.port.specs.Port.{asking}
 use Rattle.port_job.proofs.Settles.{Reaches, there, further}
@@ -65,7 +65,7 @@ Has xs made x = (nth xs made ≡ x) × (made < length xs)
 pub record Hand (ok : Act → Bool) (xs : List Act) (place end : ℕ → Progress → At) : Type 0 where
   pub asks : (x : Act) (made : ℕ) (p : Progress) → T (ok x) → Has xs made x → no_access (asking (place made p).port) ≡ false
   pub next : (x : Act) (made : ℕ) (p : Progress) → T (ok x) → length p.fetched ≡ 68 → Has xs made x →
-      exchange (place made p) ≡ (if ltb (made + 1) (length xs) then place (made + 1) (does x p) else end made (does x p))
+      exchange (place made p) ≡ (when ltb (made + 1) (length xs) then place (made + 1) (does x p) else end made (does x p))
   pub notes : (x : Act) (p : Progress) → T (ok x) → length (does x p).fetched ≡ length p.fetched
 
 -- so many accesses lead there
@@ -85,7 +85,7 @@ module _ {ok : Act → Bool} {xs : List Act} {place end : ℕ → Progress → A
         last = made;
         reaches =
             further (h.asks x made p o.0 n)
-            (subst (λ s. Reaches 0 s (end made (does x p))) (sym (h.next x made p o.0 l n ∙ if-false _ _ _ all_made)) there);
+            (subst (λ s. Reaches 0 s (end made (does x p))) (sym (h.next x made p o.0 l n ∙ when-false _ _ _ all_made)) there);
       }
   drives (y ∷ rest) x made p e o l =
       let long = sym (length-drop made xs) ∙ ap length e in
@@ -97,5 +97,5 @@ module _ {ok : Act → Bool} {xs : List Act} {place end : ℕ → Progress → A
         reaches =
             further (h.asks x made p o.0 n)
             (subst (λ s. Reaches (suc (length rest)) s (end later.last (does_all (y ∷ rest) (does x p))))
-            (sym (h.next x made p o.0 l n ∙ if-true _ _ _ more)) later.reaches);
+            (sym (h.next x made p o.0 l n ∙ when-true _ _ _ more)) later.reaches);
       }

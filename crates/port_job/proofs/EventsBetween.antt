@@ -24,7 +24,7 @@ use Rattle.controller.specs.Transfer.{cursor, data_out, byte_out, received, data
 use Rattle.controller.specs.declared.record.Controller.{Controller}
 use Rattle.notation.proofs.Among.{among-has, apart, clash}
 use Rattle.notation.proofs.Cases.{split}
-use Rattle.notation.specs.Choice.{if◌then◌else◌, among}
+use Rattle.notation.specs.Choice.{when◌then◌else◌, among}
 use Rattle.port_job.proofs.Ready.{Calm}
 
 module _ (c : Controller) where
@@ -64,7 +64,7 @@ module _ (c : Controller) where
   resets o t e l a =
       record { calm = λ _. record { off-wire = apart _ (off ∷ []) wire_turns tt t; disabled = λ _. e }; sized = l; quiet = λ _. a }
 
-  chosen : (b : Bool) (x y : Outcome) → Keeps x → Keeps y → Keeps (if b then x else y)
+  chosen : (b : Bool) (x y : Outcome) → Keeps x → Keeps y → Keeps (when b then x else y)
   chosen b x y f h = split Keeps b x y (λ _. f) (λ _. h)
 
   -- the ends of the rules

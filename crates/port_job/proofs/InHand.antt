@@ -8,8 +8,8 @@ use borrow.Author.Tests.{eq-eqb, ne_eqb, lt-ltb, le-ltb, ltb-true, ltb-false}
 use lib.Dec.{T, eqb, ltb}
 use lib.ListN.{length, take, set, length-append, length-set}
 use lib.Seq.{set_out}
-use Rattle.notation.proofs.Cases.{if-true, if-false, and-true, and_no_right}
-use Rattle.notation.specs.Choice.{if◌then◌else◌, ◌and◌}
+use Rattle.notation.proofs.Cases.{when-true, when-false, and-true, and_no_right}
+use Rattle.notation.specs.Choice.{when◌then◌else◌, ◌and◌}
 use Rattle.port.specs.Ask.{ask_for}
 use Rattle.port.specs.Hear.{concludes, onward, next_of, hears_at, hears, noted_at, asks_at, asks}
 use Rattle.port.specs.InHand.{accesses, recovers, in_hand_at, nth, place_of, count_after}
@@ -69,8 +69,8 @@ all_note [] p o = refl
 all_note (x ∷ xs) p o = all_note xs (does x p) o.1 ∙ single-notes x p o.0
 
 one-or-other : (payload : List ℕ) (b : Bool) (s t : Stand) (p : Progress) →
-    holding payload (if b then s else t) p ≡ (if b then holding payload s p else holding payload t p)
-unfolding if◌then◌else◌
+    holding payload (when b then s else t) p ≡ (when b then holding payload s p else holding payload t p)
+unfolding when◌then◌else◌
 one-or-other payload true s t p = refl
 one-or-other payload false s t p = refl
 
@@ -80,7 +80,7 @@ module _ (payload : List ℕ) (ok : Act → Bool) (xs : List Act) (stands ends :
     pub one : (x : Act) → T (ok x) → T (single x)
     pub asking : (x : Act) (made count : ℕ) → Has xs made x → asks (stands made count) payload ≡ ask_for x
     pub hearing : (x : Act) (made count value : ℕ) → T (ok x) → Has xs made x → hears (stands made count) payload value ≡
-        (if ltb (made + 1) (length xs) then stands (made + 1) (count_after x count value) else ends made (count_after x count value))
+        (when ltb (made + 1) (length xs) then stands (made + 1) (count_after x count value) else ends made (count_after x count value))
     pub noting : (x : Act) (made count : ℕ) → T (ok x) → Has xs made x → noted_at (stands made count) payload ≡ place_of x
 
   pub hand : AtHand → Hand ok xs (λ made p. holding payload (stands made p.count) p) (λ made p. holding payload (ends made p.count) p)
@@ -88,7 +88,7 @@ module _ (payload : List ℕ) (ok : Act → Bool) (xs : List Act) (stands ends :
     asks = λ x made p o e. ap no_access (g.asking x made p.count e) ∙ single-asks x (g.one x o);
     next = λ x made p o l e.
         made_one payload (stands made p.count) p x
-        (λ count. if ltb (made + 1) (length xs) then stands (made + 1) count else ends made count) (g.one x o) l (g.asking x made p.count e)
+        (λ count. when ltb (made + 1) (length xs) then stands (made + 1) count else ends made count) (g.one x o) l (g.asking x made p.count e)
         (λ value. g.hearing x made p.count value o e) (g.noting x made p.count o e)
         ∙ one-or-other payload _ _ _ (does x p);
     notes = λ x p o. single-notes x p (g.one x o);
@@ -121,17 +121,17 @@ module _ (job : Job) (payload : List ℕ) (status answer : ℕ) (xs : List Act) 
   asked x made count e = rw (steady count, e)
 
   heard : (x : Act) (made count value : ℕ) → nth xs made ≡ x → hears (stands made count) payload value ≡
-      (let t = stands made (count_after x count value) in if ltb (made + 1) (length xs) then next_of t (length xs) else concludes after t)
+      (let t = stands made (count_after x count value) in when ltb (made + 1) (length xs) then next_of t (length xs) else concludes after t)
   unfolding hears hears_at in_hand_at
   heard x made count value e = rw (steady count, e, line count)
 
   noted : (x : Act) (made count : ℕ) → nth xs made ≡ x → noted_at (stands made count) payload ≡ place_of x
-  unfolding noted_at stage_number in_hand_at if◌then◌else◌
+  unfolding noted_at stage_number in_hand_at when◌then◌else◌
   noted x made count e = rw (steady count, e)
 
   -- at a status other than 58h they follow one on the other
   pub working : eqb status 0x58 ≡ false → AtHand payload single xs stands (λ made count. concludes after (stands made count))
-  unfolding next_of if◌then◌else◌ ◌and◌
+  unfolding next_of when◌then◌else◌ ◌and◌
   working n = record {
     one = λ x o. o;
     asking = λ x made count e. asked x made count e.0;
@@ -154,23 +154,23 @@ module _ (job : Job) (payload : List ℕ) (status answer : ℕ) (xs : List Act) 
     in_front {x} {made} e = ap (λ (zs : List Act). nth zs made) is ∙ nth-front front y made e.1 ∙ e.0
 
     pub reading : eqb status 0x58 ≡ true → AtHand payload single front stands (λ made count. rechecks count)
-    unfolding next_of if◌then◌else◌
+    unfolding next_of when◌then◌else◌
     reading s = record {
       one = λ x o. o;
       asking = λ x made count e. asked x made count (in_front e);
       hearing = λ x made count value o e.
-          heard x made count value (in_front e) ∙ if-true _ _ _ (lt-ltb (made + 1) (length xs) (let l = e.1 in omega (arith, total)))
+          heard x made count value (in_front e) ∙ when-true _ _ _ (lt-ltb (made + 1) (length xs) (let l = e.1 in omega (arith, total)))
           ∙ or-looks made (count_after x count value) e.1 _ refl;
       noting = λ x made count o e. noted x made count (in_front e);
     }
       where
         or-looks : (made count : ℕ) → made < m → (b : Bool) → ltb (made + 1) m ≡ b →
-            next_of (stands made count) (length xs) ≡ (if b then stands (made + 1) count else rechecks count)
+            next_of (stands made count) (length xs) ≡ (when b then stands (made + 1) count else rechecks count)
         or-looks made count l true e =
-            let more = ltb-true (made + 1) m e in if-false _ _ _ (and_no_right _ _ (ne_eqb (made + 2) (length xs) (omega (arith, total))))
+            let more = ltb-true (made + 1) m e in when-false _ _ _ (and_no_right _ _ (ne_eqb (made + 2) (length xs) (omega (arith, total))))
         or-looks made count l false e =
             let no_more = ltb-false (made + 1) m e in
-            if-true _ _ _ (and-true _ _ s (eq-eqb (made + 2) (length xs) (omega (arith, total))))
+            when-true _ _ _ (and-true _ _ s (eq-eqb (made + 2) (length xs) (omega (arith, total))))
             ∙ ap (λ (k : ℕ). stand Recheck job status k false answer count false) (omega arith)
 
     -- and the last
@@ -185,7 +185,7 @@ module _ (job : Job) (payload : List ℕ) (status answer : ℕ) (xs : List Act) 
         further (ap no_access asks-it ∙ single-asks y o)
         (subst (λ (s : At). Reaches 0 s (concluded (does y p)))
         (sym (made_one payload (stands m p.count) p y (λ count. concludes after (stands m count)) o l asks-it
-        (λ value. heard y m p.count value last ∙ if-false _ _ _ all_made) (noted y m p.count last))) there)
+        (λ value. heard y m p.count value last ∙ when-false _ _ _ all_made) (noted y m p.count last))) there)
 
 -- a write notes nothing
 record Unnoted (x : Act) : Type 0 where
@@ -205,7 +205,7 @@ write-unnoted (counts k) o = absurd o
 module _ (job : Job) (payload : List ℕ) (status answer : ℕ) where
   pub beginning : AtHand payload is_write (begins job) (λ made count. stand First job status made false answer count false)
       (λ made count. stand Waiting job status made false answer count false)
-  unfolding asks asks_at in_hand_at hears hears_at onward noted_at stage_number if◌then◌else◌
+  unfolding asks asks_at in_hand_at hears hears_at onward noted_at stage_number when◌then◌else◌
   beginning = record {
     one = λ x o. (write-unnoted x o).one;
     asking = λ x made count e. rw e.0;
@@ -217,7 +217,7 @@ module _ (job : Job) (payload : List ℕ) (status answer : ℕ) where
 module _ (job : Job) (payload : List ℕ) (status answer : ℕ) (settings : List ℕ) (kept : take job.n payload ≡ settings) where
   pub recovering : AtHand payload is_write (recovers settings) (λ made count. stand Recovering job status made false answer count true)
       (λ made count. stand Pausing job status made false answer count true)
-  unfolding asks asks_at in_hand_at hears hears_at onward noted_at stage_number if◌then◌else◌
+  unfolding asks asks_at in_hand_at hears hears_at onward noted_at stage_number when◌then◌else◌
   recovering = record {
     one = λ x o. (write-unnoted x o).one;
     asking = λ x made count e. rw (kept, e.0);

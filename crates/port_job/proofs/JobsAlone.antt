@@ -8,8 +8,8 @@ use lib.ListN.{length}
 use Rattle.controller.specs.Record.{sound}
 use Rattle.controller.specs.declared.record.Controller.{Controller}
 use Rattle.driver.specs.Run.{Report, job_of, declines}
-use Rattle.notation.proofs.Cases.{if-false}
-use Rattle.notation.specs.Choice.{if◌then◌else◌}
+use Rattle.notation.proofs.Cases.{when-false}
+use Rattle.notation.specs.Choice.{when◌then◌else◌}
 use Rattle.port.specs.Begin.{unfit, unsettled, bad_settings}
 use Rattle.port_job.proofs.Between.{Between, recovered-between, job-between}
 use Rattle.port_job.proofs.OneJob.{JobLeaves, untouched, began, gives-job}
@@ -51,17 +51,17 @@ whole-fits asked given bytes e = rw e
 
 -- 22 by what the port knows and the registers tell, or by the model's own test
 either_test : (u l r : Bool) (x y : Report) → (u ≡ true → r ≡ false) → (u ≡ false → l ≡ r) →
-    (if u then y else if l then x else y) ≡ (if r then x else y)
-unfolding if◌then◌else◌
-either_test true l r x y f g = sym (if-false r x y (f refl))
-either_test false l r x y f g = ap (λ (b : Bool). if b then x else y) (g refl)
+    (when u then y else when l then x else y) ≡ (when r then x else y)
+unfolding when◌then◌else◌
+either_test true l r x y f g = sym (when-false r x y (f refl))
+either_test false l r x y f g = ap (λ (b : Bool). when b then x else y) (g refl)
 
 same_choice : (asked : Job) (payload script : List ℕ) (s : At) → Agree s → eqb (length script % 2) 1 ≡ false →
     port_job_of asked payload script s.port.stand s.chip ≡ job_of asked payload 68 69 script s.chip
 unfolding port_job_of job_of
 same_choice asked payload script s a e =
     rw (whole-fits asked (length payload) (length script) e)
-    (ap (λ (r : Report). if unfit asked (length payload) then declines s.chip 21 else r)
+    (ap (λ (r : Report). when unfit asked (length payload) then declines s.chip 21 else r)
     (either_test (unsettled s.port.stand) (looks_ready s.chip) (ready s.chip) _ _ a.unready a.alike))
 
 each_same : (items : List Item) (s : At) → Between s → Agree s → AllWhole items → EachSame items s

@@ -10,8 +10,8 @@ use Rattle.controller.specs.Access.{indirect_at, bars_read, read_sound, read_of}
 use Rattle.controller.specs.Record.{interrupts, sound}
 use Rattle.controller.specs.Reply.{accepts}
 use Rattle.controller.specs.declared.record.Controller.{Controller}
-use Rattle.notation.proofs.Cases.{if-true, if-false, and-true, and_no_right}
-use Rattle.notation.specs.Choice.{if◌then◌else◌, ◌and◌, among}
+use Rattle.notation.proofs.Cases.{when-true, when-false, and-true, and_no_right}
+use Rattle.notation.specs.Choice.{when◌then◌else◌, ◌and◌, among}
 use Rattle.port.specs.Hear.{looked, hears, noted_at, asks}
 use Rattle.port.specs.Look.{interrupt_in}
 use Rattle.port.specs.Port.{step}
@@ -26,7 +26,7 @@ use Rattle.service.specs.declared.progress.Progress.{Progress}
 
 -- register 3 is read in any turn, and changes nothing
 pub control-read : (c : Controller) → sound c ≡ true → read_of c 3 ≡ accepts c (reads_as c.control (interrupts c))
-unfolding read_of read_sound indirect_at bars_read if◌then◌else◌ ◌and◌
+unfolding read_of read_sound indirect_at bars_read when◌then◌else◌ ◌and◌
 control-read c s = rw (s, and_no_right (among (kind c.turn) wire_turns) false refl)
 
 -- a register is asked for, and read
@@ -44,18 +44,18 @@ after_read_lem {t} {k} payload s p register value l a n r h =
 module _ (s : Stand) (value : ℕ) where
   pub looks-reset : (flags_of value).ensio ≡ false → looked s value ≡ ended s 29 0
   unfolding looked
-  looks-reset e = if-true _ _ _ (ap not e)
+  looks-reset e = when-true _ _ _ (ap not e)
 
   module _ (e : (flags_of value).ensio ≡ true) where
     pub looks-interrupted : interrupt_in value ≡ true → looked s value ≡ at_stage s Interrupted
     unfolding looked
-    looks-interrupted i = if-false _ _ _ (ap not e) ∙ if-true _ _ _ i
+    looks-interrupted i = when-false _ _ _ (ap not e) ∙ when-true _ _ _ i
 
     module _ (i : interrupt_in value ≡ false) where
       pub looks-stopped : s.due ≡ true → (flags_of value).sto ≡ false → looked s value ≡ ended s s.answer s.count
       unfolding looked
-      looks-stopped d t = if-false _ _ _ (ap not e) ∙ if-false _ _ _ i ∙ if-true _ _ _ (and-true _ _ d (ap not t))
+      looks-stopped d t = when-false _ _ _ (ap not e) ∙ when-false _ _ _ i ∙ when-true _ _ _ (and-true _ _ d (ap not t))
 
       pub looks_on : (s.due and not (flags_of value).sto) ≡ false → looked s value ≡ at_stage s Waiting
       unfolding looked
-      looks_on d = if-false _ _ _ (ap not e) ∙ if-false _ _ _ i ∙ if-false _ _ _ d
+      looks_on d = when-false _ _ _ (ap not e) ∙ when-false _ _ _ i ∙ when-false _ _ _ d

@@ -16,7 +16,7 @@ use Rattle.controller.specs.Reset.{reset_with}
 use Rattle.controller.specs.Transfer.{address_status, sent_direction, data_out, byte_out, acknowledges_last, received, data_in, byte_in}
 use Rattle.notation.proofs.Among.{has, every, same, is_true, among-has, apart}
 use Rattle.notation.proofs.Cases.{split}
-use Rattle.notation.specs.Choice.{if◌then◌else◌, among}
+use Rattle.notation.specs.Choice.{when◌then◌else◌, among}
 use Rattle.port.specs.Look.{meets}
 use Rattle.runs.proofs.Invariant.{In, job_turns, Good}
 use Rattle.runs.proofs.Receiving.{nacks_last}
@@ -69,7 +69,7 @@ module _ {job : Job} {payload carried : List ℕ} {sent : ℕ} {p : Progress} (g
   not-here : (o : Outcome) (ks : List ℕ) → In p ks → T (every (λ k. same (has ks k) false) job_turns) → Met o
   not-here o ks t n = absurd (here g ks n t)
 
-  chosen : (b : Bool) (x y : Outcome) → (b ≡ true → Met x) → (b ≡ false → Met y) → Met (if b then x else y)
+  chosen : (b : Bool) (x y : Outcome) → (b ≡ true → Met x) → (b ≡ false → Met y) → Met (when b then x else y)
   chosen b x y f h = split Met b x y f h
 
   no_ack : (o : Outcome) → In p (receive ∷ []) → acknowledges_last p.controller ≡ true → Met o

@@ -16,8 +16,8 @@ use Rattle.controller.specs.declared.record.Controller.{Controller}
 use Rattle.driver.specs.Run.{run, reports, declines}
 use Rattle.laws.proofs.Status.{status-accepted}
 use Rattle.notation.proofs.Among.{apart}
-use Rattle.notation.proofs.Cases.{if-true, if-false, and-true, and_no_left, and_no_right, and_left, and_right}
-use Rattle.notation.specs.Choice.{if◌then◌else◌, ◌or◌, among}
+use Rattle.notation.proofs.Cases.{when-true, when-false, and-true, and_no_left, and_no_right, and_left, and_right}
+use Rattle.notation.specs.Choice.{when◌then◌else◌, ◌or◌, among}
 use Rattle.port.specs.Begin.{unfit, unsettled, start_of}
 use Rattle.port.specs.HandUp.{take_of}
 use Rattle.port.specs.Hear.{hears_at, hears, noted_at, asks_at, asks}
@@ -91,7 +91,7 @@ module _ (asked : Job) (payload script : List ℕ) (s : At) where
   -- the job is answered so, and nothing was written
   declined : (job : Job) (answer : ℕ) (stale : Bool) → eqb answer 0 ≡ false →
       reported (plays (over_at job answer stale) 0 script) ≡ declines c answer
-  unfolding reported ends_so declines take_of stage_number asks asks_at starting if◌then◌else◌
+  unfolding reported ends_so declines take_of stage_number asks asks_at starting when◌then◌else◌
   declined job answer stale z =
       ap reported (over-plays (over_at job answer stale) answer 0 0 script refl) ∙ rw z
 
@@ -125,15 +125,15 @@ module _ (asked : Job) (payload script : List ℕ) (s : At) where
 
   -- 21; 22 where the chip has to be brought back first
   by_21 : unfit asked (length payload) ≡ true → Done
-  unfolding among if◌then◌else◌ start_of port_job_of asks asks_at no_access
+  unfolding among when◌then◌else◌ start_of port_job_of asks asks_at no_access
   by_21 e =
-      declines_so (no_job 0) 21 (unsettled s.port.stand) refl refl refl (settles-at _ (if-true _ _ _ e) there refl (omega arith)) (if-true _ _ _ e)
+      declines_so (no_job 0) 21 (unsettled s.port.stand) refl refl refl (settles-at _ (when-true _ _ _ e) there refl (omega arith)) (when-true _ _ _ e)
 
   by_22 : unfit asked (length payload) ≡ false → unsettled s.port.stand ≡ true → Done
-  unfolding among if◌then◌else◌ start_of port_job_of asks asks_at no_access
+  unfolding among when◌then◌else◌ start_of port_job_of asks asks_at no_access
   by_22 n u =
-      declines_so (no_job 0) 22 true refl refl (sym u) (settles-at _ (if-false _ _ _ n ∙ if-true _ _ _ u) there refl (omega arith))
-      (if-false _ _ _ n ∙ if-true _ _ _ u)
+      declines_so (no_job 0) 22 true refl refl (sym u) (settles-at _ (when-false _ _ _ n ∙ when-true _ _ _ u) there refl (omega arith))
+      (when-false _ _ _ n ∙ when-true _ _ _ u)
 
   module _ (n : unfit asked (length payload) ≡ false) (u : unsettled s.port.stand ≡ false) (sc : sound c ≡ true) where
     abbrev stands_at : Stage → ℕ → Stand
@@ -144,29 +144,29 @@ module _ (asked : Job) (payload script : List ℕ) (s : At) where
     noted = length-replicate {A = ℕ} 68 0
 
     -- I2CCON is read; I2CSTA after it
-    reads-control : {k : ℕ} {x : Stand} {t : At} → (if idle_control (reads c 3) then stands_at stage.Status 27 else stands_at stage.Over 22) ≡ x →
+    reads-control : {k : ℕ} {x : Stand} {t : At} → (when idle_control (reads c 3) then stands_at stage.Status 27 else stands_at stage.Over 22) ≡ x →
         Reaches k (standing x) t → Reaches (suc k) (standing (stands_at stage.Control 27)) t
-    unfolding hears hears_at asks asks_at noted_at stage_number starting if◌then◌else◌
+    unfolding hears hears_at asks asks_at noted_at stage_number starting when◌then◌else◌
     reads-control {k} {x} {t} e reach =
         after_read_lem kept (stands_at stage.Control 27) (starting c) 3 (reads c 3) noted refl refl (as_read c 3 _ (control-read c sc))
         (subst (λ (y : Stand). Reaches k (standing y) t) (sym e) reach)
 
-    reads-status : {k : ℕ} {x : Stand} {t : At} → (if eqb (reads c 0) 0xF8 then stands_at stage.First 27 else stands_at stage.Over 22) ≡ x →
+    reads-status : {k : ℕ} {x : Stand} {t : At} → (when eqb (reads c 0) 0xF8 then stands_at stage.First 27 else stands_at stage.Over 22) ≡ x →
         Reaches k (standing x) t → Reaches (suc k) (standing (stands_at stage.Status 27)) t
-    unfolding hears hears_at asks asks_at noted_at stage_number starting if◌then◌else◌
+    unfolding hears hears_at asks asks_at noted_at stage_number starting when◌then◌else◌
     reads-status {k} {x} {t} e reach =
         after_read_lem kept (stands_at stage.Status 27) (starting c) 0 (reads c 0) noted refl refl (as_read c 0 _ (status-accepted c sc))
         (subst (λ (y : Stand). Reaches k (standing y) t) (sym e) reach)
 
     starts_so : start_of s.port.stand asked (length payload) ≡ stands_at stage.Control 27
     unfolding start_of
-    starts_so = if-false _ _ _ n ∙ if-false _ _ _ u
+    starts_so = when-false _ _ _ n ∙ when-false _ _ _ u
 
     -- 22: what the registers tell
     unready : {k : ℕ} → looks_ready c ≡ false → Reaches k (standing (stands_at stage.Control 27)) (over_at asked 22 false) → k ≤ 72 → Done
-    unfolding port_job_of asks asks_at no_access among if◌then◌else◌
+    unfolding port_job_of asks asks_at no_access among when◌then◌else◌
     unready l reach few =
-        declines_so asked 22 false refl refl (sym u) (settles-at _ starts_so reach refl few) (if-false _ _ _ n ∙ if-false _ _ _ u ∙ if-false _ _ _ l)
+        declines_so asked 22 false refl refl (sym u) (settles-at _ starts_so reach refl few) (when-false _ _ _ n ∙ when-false _ _ _ u ∙ when-false _ _ _ l)
 
     module _ (ready : looks_ready c ≡ true) (calm : Calm c) (places : length c.buffer ≡ 68) where
       abbrev first : Progress
@@ -198,7 +198,7 @@ module _ (asked : Job) (payload script : List ℕ) (s : At) where
       unfolding looks_ready asks asks_at no_access waits
       settles-waiting =
           settles-at _ starts_so
-          (reads-control (if-true _ _ _ (and_left _ _ ready)) (reads-status (if-true _ _ _ (and_right _ _ ready)) writes-first.reaches)) refl (omega arith)
+          (reads-control (when-true _ _ _ (and_left _ _ ready)) (reads-status (when-true _ _ _ (and_right _ _ ready)) writes-first.reaches)) refl (omega arith)
 
       good : Good asked payload [] 0 first
       good = good-begun asked payload c sc looks.turn places
@@ -214,7 +214,7 @@ module _ (asked : Job) (payload script : List ℕ) (s : At) where
       by_run =
           subst (JobGives asked payload script s) (sym (played-from settles-waiting))
           (record {
-            same = rw (gives.result, gives.sent, gives.handed) (sym (if-false _ _ _ n ∙ if-false _ _ _ u ∙ if-true _ _ _ ready));
+            same = rw (gives.result, gives.sent, gives.handed) (sym (when-false _ _ _ n ∙ when-false _ _ _ u ∙ when-true _ _ _ ready));
             leaves = began gives.leaves;
             rested = subst (Rests asked payload) (sym settles-waiting) (at_wait n good held waits refl);
           })
@@ -230,7 +230,7 @@ module _ (asked : Job) (payload script : List ℕ) (s : At) where
       by_case true b i e n u x y = by_21 n
       by_case false true i e n u x y = by_22 n u
       by_case false false false e n u x y =
-          unready n u sc (and_no_left _ _ x) (reads-control n u sc (if-false _ _ _ x) there) (omega arith)
+          unready n u sc (and_no_left _ _ x) (reads-control n u sc (when-false _ _ _ x) there) (omega arith)
       by_case false false true false n u x y =
-          unready n u sc (and_no_right _ _ y) (reads-control n u sc (if-true _ _ _ x) (reads-status n u sc (if-false _ _ _ y) there)) (omega arith)
+          unready n u sc (and_no_right _ _ y) (reads-control n u sc (when-true _ _ _ x) (reads-status n u sc (when-false _ _ _ y) there)) (omega arith)
       by_case false false true true n u x y = by_run n u sc (and-true _ _ x y) (calm u) places

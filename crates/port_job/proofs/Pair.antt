@@ -23,8 +23,8 @@ use Rattle.driver.specs.Run.{taking}
 use Rattle.laws.proofs.Soundness.{event-stays-sound}
 use Rattle.laws.proofs.Status.{status-reads, status-accepted, interrupts_exactly_in_host, idle_exactly_without_interrupt}
 use Rattle.notation.proofs.Among.{apart}
-use Rattle.notation.proofs.Cases.{if-true, and-true, and_no_left, split}
-use Rattle.notation.specs.Choice.{if◌then◌else◌, ◌and◌, ◌or◌, among}
+use Rattle.notation.proofs.Cases.{when-true, and-true, and_no_left, split}
+use Rattle.notation.specs.Choice.{when◌then◌else◌, ◌and◌, ◌or◌, among}
 use Rattle.port.specs.Hear.{concludes, enters, looked, hears_at, hears, noted_at, asks_at, asks}
 use Rattle.port.specs.Look.{interrupt_in, still_control, meets}
 use Rattle.port.specs.Port.{step}
@@ -87,7 +87,7 @@ module _ (job : Job) (kept : List ℕ) where
 
 -- event 14, where it is accepted, is the reset
 reset-next : (c : Controller) (number argument : ℕ) → number ≡ 14 → (event_of c number argument).refused ≡ 0 → (event_of c number argument).next ≡ reset c
-unfolding event_of refuses accepts ◌or◌ if◌then◌else◌
+unfolding event_of refuses accepts ◌or◌ when◌then◌else◌
 reset-next c number argument e =
     rw e
     (split (λ (o : Outcome). o.refused ≡ 0 → o.next ≡ reset c) (bad_argument 14 argument) _ _ (λ _ z. absurd (omega (arith, z))) (λ _ _. refl))
@@ -118,13 +118,13 @@ module _ {job : Job} {payload carried : List ℕ} {sent : ℕ} {p : Progress} (g
     looking = holding kept (stands_at stage.Look) (taking p next)
 
     wakes : woken (waits_at job kept w).port next ≡ at_rest looking
-    unfolding woken step hears hears_at noted_at stage_number if◌then◌else◌ taking
+    unfolding woken step hears hears_at noted_at stage_number when◌then◌else◌ taking
     wakes =
         ap (λ (xs : List ℕ). at_rest (holding kept (stands_at stage.Look) (with_fetched (taking p next) xs))) (unnoted p.fetched 0 g.whole.notes)
 
     looks : {k : ℕ} {t : Stand} {u : At} → looked (stands_at stage.Look) (control_of next) ≡ t →
         Reaches k (holding kept t (taking p next)) u → Reaches (suc k) looking u
-    unfolding hears hears_at asks asks_at noted_at stage_number if◌then◌else◌ taking
+    unfolding hears hears_at asks asks_at noted_at stage_number when◌then◌else◌ taking
     looks {k} {t} {u} e r =
         after_read_lem kept (stands_at stage.Look) (taking p next) 3 (control_of next) g.whole.notes refl refl (control-read next next-sound)
         (subst (λ (x : Stand). Reaches k (holding kept x (taking p next)) u) (sym e) r)
@@ -174,7 +174,7 @@ module _ {job : Job} {payload carried : List ℕ} {sent : ℕ} {p : Progress} (g
 
     -- event 14
     by_reset : number ≡ 14 → Ends job kept (awake) (follows (ends Reset) q)
-    unfolding follows taking no_access asks asks_at reset_with kind among if◌then◌else◌
+    unfolding follows taking no_access asks asks_at reset_with kind among when◌then◌else◌
     by_reset e =
         let is = reset-next p.controller number argument e accepted in
         let no = ap (λ (c : Controller). c.control.ensio) is ∙ reset-disables p.controller in
@@ -194,7 +194,7 @@ module _ {job : Job} {payload carried : List ℕ} {sent : ℕ} {p : Progress} (g
 
     -- own STOP
     by_stop : number ≡ 4 → Ends job kept (awake) (follows finishes q)
-    unfolding follows taking no_access asks asks_at kind among if◌then◌else◌
+    unfolding follows taking no_access asks asks_at kind among when◌then◌else◌
     by_stop e =
         let o = own-stopped payload form g h number argument accepted e in
         let no = ap (λ (t : Turn). among (kind t) (host ∷ [])) o.1 in
@@ -287,9 +287,9 @@ module _ {job : Job} {payload carried : List ℕ} {sent : ℕ} {p : Progress} (g
 
         -- it is read, and its work driven
         arrives : Arrives (concluded line.work.after)
-        unfolding hears hears_at asks asks_at noted_at stage_number if◌then◌else◌ taking
+        unfolding hears hears_at asks asks_at noted_at stage_number when◌then◌else◌ taking
         arrives =
-            let entering = if-true _ _ _ meets_it ∙ ap (enters (stands_at stage.Interrupted) status) (line.ours p.count) in
+            let entering = when-true _ _ _ meets_it ∙ ap (enters (stands_at stage.Interrupted) status) (line.ours p.count) in
             after_read_lem kept (stands_at stage.Interrupted) q 0 status places-noted refl refl (status-accepted next next-sound)
             (subst (λ (x : Stand). Reaches worked.k (holding kept x q) (concluded line.work.after)) (sym entering) worked.reaches)
 

@@ -22,8 +22,8 @@ use Rattle.control.specs.declared.turn.Turn.{Turn}
 use Rattle.controller.specs.I2ccon.{bad_count}
 use Rattle.controller.specs.Record.{sound}
 use Rattle.controller.specs.declared.record.Controller.{Controller}
-use Rattle.notation.proofs.Cases.{if-false}
-use Rattle.notation.specs.Choice.{if◌then◌else◌, ◌and◌, among}
+use Rattle.notation.proofs.Cases.{when-false}
+use Rattle.notation.specs.Choice.{when◌then◌else◌, ◌and◌, among}
 use Rattle.port.specs.InHand.{reads_from}
 use Rattle.port.specs.Look.{meets}
 use Rattle.port.specs.Port.{padded, kept_data}
@@ -66,12 +66,12 @@ pub record PortLine (job : Job) (kept payload : List ℕ) (status : ℕ) : Type 
 
 -- a fault is left as it is; after 38h 40h is written, and the turn stays
 stays-at-fault : (status : ℕ) → eqb status 0xF8 ≡ false → StaysHost status []
-unfolding does_all kind among if◌then◌else◌
+unfolding does_all kind among when◌then◌else◌
 stays-at-fault status n p s e =
     (ap (λ (t : Turn). among (kind t) (host ∷ [])) (hosted-turn p.controller.turn (ap (λ (x : ℕ). eqb x 0xF8) e ∙ n)), refl)
 
 stays_at_38h : StaysHost 0x38 (writes 3 0x40 ∷ [])
-unfolding does_all does kind among if◌then◌else◌ response responds_at flags_of bad_count ◌and◌ status_of edge_of
+unfolding does_all does kind among when◌then◌else◌ response responds_at flags_of bad_count ◌and◌ status_of edge_of
 stays_at_38h p s e =
     let c = p.controller in
     let t = Host 0x38 (edge_of c.turn) in
@@ -90,7 +90,7 @@ one_of_them P (k ∷ ks) a x e = step (eqb x k) refl (one_of_them P ks a.1 x)
   where
     step : (b : Bool) → eqb x k ≡ b → (among x ks ≡ true → P x) → P x
     step true q later = subst P (sym (eqb-true x k q)) a.0
-    step false q later = later (sym (if-false (eqb x k) true (among x ks) q) ∙ e)
+    step false q later = later (sym (when-false (eqb x k) true (among x ks) q) ∙ e)
 
 -- the data as the port keeps them
 abbrev pub kept_of : Job → List ℕ → List ℕ
@@ -138,12 +138,12 @@ module _ (job : Job) (payload : List ℕ) (high : job.n ≤ 68) where
       line a.at_58 b.at_58 (flat-read job.n 0x50) (rechecked (reads_from n 0) 0x50 refl (each_read n 0) (reads_only n 0)) (stopping Done refl)
 
   at_38 : L 0x38
-  unfolding among if◌then◌else◌
+  unfolding among when◌then◌else◌
   at_38 = line a.at_38 b.at_38 (flat-own _ (tt, tt) (omega arith)) (straight refl) (breaking Lost refl refl stays_at_38h)
 
   at-fault : (status : ℕ) → eqb status 0xF8 ≡ false → eqb status 0x58 ≡ false → Line (job_table job payload) status fault_work →
       Line (job_table job kept) status fault_work → L status
-  unfolding among if◌then◌else◌
+  unfolding among when◌then◌else◌
   at-fault status n s t o = line t o (flat-own [] tt (omega arith)) (straight s) (breaking Fault refl refl (stays-at-fault status n))
 
   -- the statuses at which a job of either direction ends

@@ -8,7 +8,7 @@ use borrow.Author.Tests.{ltb-false}
 use lib.ListN.{length, length-append, length-replicate}
 use Rattle.controller.specs.Record.{sound}
 use Rattle.controller.specs.Reply.{accepts}
-use Rattle.notation.proofs.Cases.{if-true, if-false, or-left-off}
+use Rattle.notation.proofs.Cases.{when-true, when-false, or-left-off}
 use Rattle.notation.specs.Choice.{◌or◌}
 use Rattle.port.specs.Begin.{unsettled, bad_settings, recover_of}
 use Rattle.port.specs.Hear.{hears_at, hears, asks_at, asks}
@@ -73,7 +73,7 @@ module _ (settings : List ℕ) (s : At) where
   pub declines : bad_settings settings ≡ true → Declines s (recovered settings s)
   unfolding recover_of asks asks_at no_access
   declines b =
-      subst (Declines s) (sym (from-stand refusing (if-true _ _ _ b) ∙ ap exchange (at_rest_lem 72 (standing refusing) refl))) stays-over
+      subst (Declines s) (sym (from-stand refusing (when-true _ _ _ b) ∙ ap exchange (at_rest_lem 72 (standing refusing) refl))) stays-over
 
   module _ (b : bad_settings settings ≡ false) (sc : sound s.chip ≡ true) where
     abbrev stands_at : Stage → ℕ → ℕ → Stand
@@ -113,4 +113,4 @@ module _ (settings : List ℕ) (s : At) where
     unfolding recover_of asks asks_at no_access starting
     recovers_so =
         subst (Recovers s)
-        (sym (from-stand (stands_at stage.Recovering 0 0) (if-false _ _ _ b) ∙ ap exchange (rests 72 writes-all.reaches refl short))) after_pause
+        (sym (from-stand (stands_at stage.Recovering 0 0) (when-false _ _ _ b) ∙ ap exchange (rests 72 writes-all.reaches refl short))) after_pause

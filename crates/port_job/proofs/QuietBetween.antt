@@ -20,7 +20,7 @@ use Rattle.controller.specs.declared.record.Controller.{Controller}
 use Rattle.driver.specs.Run.{Run, closes, breaks, sending, taking, run, Report, reports, declines}
 use Rattle.notation.proofs.Among.{has, is_true}
 use Rattle.notation.proofs.Cases.{split}
-use Rattle.notation.specs.Choice.{if◌then◌else◌}
+use Rattle.notation.specs.Choice.{when◌then◌else◌}
 use Rattle.port.specs.Begin.{bad_settings}
 use Rattle.port_job.proofs.Between.{Between, recovered-between, item_between}
 use Rattle.port_job.proofs.EventsBetween.{event-keeps}
@@ -51,7 +51,7 @@ module _ (c : Controller) (z : aa_of c ≡ false) where
   record Quiet (o : Outcome) : Type 0 where
     aa : aa_of o.next ≡ false
 
-  chosen : (b : Bool) (x y : Outcome) → (b ≡ true → Quiet x) → (b ≡ false → Quiet y) → Quiet (if b then x else y)
+  chosen : (b : Bool) (x y : Outcome) → (b ≡ true → Quiet x) → (b ≡ false → Quiet y) → Quiet (when b then x else y)
   chosen b x y f h = split Quiet b x y f h
 
   refused : (n : ℕ) → Quiet (refuses c n)
@@ -124,7 +124,7 @@ module _ (asked : Job) (payload : List ℕ) where
   unfolding job_table
   table-silent status count = search (either, data_silent (take asked.n payload), tt) depth 20
     where
-      either : (b : Bool) (x y : Work) → AllSilent x.acts → AllSilent y.acts → AllSilent (if b then x else y).acts
+      either : (b : Bool) (x y : Work) → AllSilent x.acts → AllSilent y.acts → AllSilent (when b then x else y).acts
       either b x y f g = split (λ (w : Work). AllSilent w.acts) b x y (λ _. f) (λ _. g)
 
   serve-quiet : (number : ℕ) (p : Progress) → aa_of p.controller ≡ false → aa_of (serve (job_table asked payload) number p).controller ≡ false

@@ -15,7 +15,7 @@ use Rattle.controller.specs.declared.record.Controller.{Controller}
 use Rattle.laws.proofs.Status.{status-reads, control-reads}
 use Rattle.notation.proofs.Among.{keys_in, within, one_of, apart, clash}
 use Rattle.notation.proofs.Cases.{and-true, and_no_left, and_no_right, and_left, and_right}
-use Rattle.notation.specs.Choice.{if◌then◌else◌, among}
+use Rattle.notation.specs.Choice.{when◌then◌else◌, among}
 use Rattle.port.specs.Look.{idle_control}
 use Rattle.port_job.proofs.ControlByte.{Shown, shown}
 use Rattle.port_job.specs.Items.{looks_ready}
@@ -56,7 +56,7 @@ waiting-calm w = record { off-wire = apart _ waiting_turns wire_turns tt w; disa
 -- the turn is neither Off nor Host nor a wire turn
 waiting-turn : (t : Turn) → (among (kind t) (off ∷ []) ≡ true → ⊥) → among (kind t) (host ∷ []) ≡ false → among (kind t) wire_turns ≡ false →
     among (kind t) waiting_turns ≡ true
-unfolding kind among if◌then◌else◌
+unfolding kind among when◌then◌else◌
 waiting-turn Off o h w = absurd (o refl)
 waiting-turn (Host s e) o h w = absurd (true≢false h)
 waiting-turn Free o h w = refl

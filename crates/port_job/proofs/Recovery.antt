@@ -18,7 +18,7 @@ use Rattle.controller.specs.Setters.{with_pointer, with_armed}
 use Rattle.controller.specs.declared.record.Controller.{Controller}
 use Rattle.laws.proofs.Soundness.{write-stays-sound}
 use Rattle.notation.proofs.Cases.{split}
-use Rattle.notation.specs.Choice.{if◌then◌else◌, ◌and◌, ◌or◌, among}
+use Rattle.notation.specs.Choice.{when◌then◌else◌, ◌and◌, ◌or◌, among}
 use Rattle.port.specs.InHand.{alternates, recovers}
 use Rattle.port_job.proofs.Ready.{Freed}
 use Rattle.service.proofs.AccessesLeave.{control-written, pointer-written}
@@ -49,7 +49,7 @@ module _ (buffer : List ℕ) where
     unfolding accepts reset_with
     was-reset r v = record { off = record { turn = refl; sto = refl; same = h.same } }
 
-    chosen : (b : Bool) (x y : Outcome) → (b ≡ true → LeavesOff x) → (b ≡ false → LeavesOff y) → LeavesOff (if b then x else y)
+    chosen : (b : Bool) (x y : Outcome) → (b ≡ true → LeavesOff x) → (b ≡ false → LeavesOff y) → LeavesOff (when b then x else y)
     chosen b x y f k = split LeavesOff b x y f k
 
     -- which register is meant is known
@@ -92,7 +92,7 @@ pub record BroughtBack (c d : Controller) : Type 0 where
 -- 40h to I2CCON, last
 switched_on : (buffer : List ℕ) (d : Controller) → sound d ≡ true → IsOff buffer d →
     (Freed (put d 3 0x40)) × ((put d 3 0x40).buffer ≡ buffer) × ((put d 3 0x40).control.aa ≡ false)
-unfolding response kind among if◌then◌else◌ flags_of bad_count ◌and◌ keeps status_of
+unfolding response kind among when◌then◌else◌ flags_of bad_count ◌and◌ keeps status_of
 switched_on buffer d s h =
     let left = control-written d 0x40 Off Free s h.turn refl refl refl refl refl in (
       subst Freed (sym left) (record { turn = refl; ensio = refl; sta = refl; sto = h.sto }),
@@ -102,12 +102,12 @@ switched_on buffer d s h =
 
 -- I2CPRESET, register 2 with the pointer at 05h, is written in any turn
 preset_written : (c : Controller) (x : ℕ) → sound c ≡ true → c.pointer ≡ 5 → write_of c 2 x ≡ write_preset c x
-unfolding write_of write_sound indirect_at bars_write write_at_pointer if◌then◌else◌ ◌and◌ ◌or◌
+unfolding write_of write_sound indirect_at bars_write write_at_pointer when◌then◌else◌ ◌and◌ ◌or◌
 preset_written c x s p = rw (s, p)
 
 -- the software reset, in any turn
 resets : (c : Controller) → sound c ≡ true → put (put (put c 0 0x05) 2 0xA5) 2 0x5A ≡ reset c
-unfolding put write_preset completes_reset accepts if◌then◌else◌ ◌and◌
+unfolding put write_preset completes_reset accepts when◌then◌else◌ ◌and◌
 resets c s =
     let pointed = with_armed (with_pointer c 5) false in
     let armed = with_armed pointed true in

@@ -13,8 +13,8 @@ use Rattle.controller.specs.Event.{event_of}
 use Rattle.controller.specs.Record.{sound}
 use Rattle.driver.specs.Run.{Run, closes, breaks, sending, taking, run, hands_up}
 use Rattle.notation.proofs.Among.{within}
-use Rattle.notation.proofs.Cases.{if-true, if-false, and_no_right}
-use Rattle.notation.specs.Choice.{if◌then◌else◌, ◌and◌, ◌or◌, among}
+use Rattle.notation.proofs.Cases.{when-true, when-false, and_no_right}
+use Rattle.notation.specs.Choice.{when◌then◌else◌, ◌and◌, ◌or◌, among}
 use Rattle.port.specs.Begin.{unsettled, give_up_of}
 use Rattle.port.specs.HandUp.{Taken, nothing, take_done, take_of}
 use Rattle.port.specs.Hear.{asks_at, asks}
@@ -65,9 +65,9 @@ lasting-unready {p = p} g h = by_turn (among (kind p.controller.turn) (free ∷ 
 
 -- what is handed up
 done-or-not : (done reads : Bool) (answer : ℕ) (bytes : List ℕ) →
-    (if not done then nothing answer else if not reads or false then nothing 21 else record { answer = 0; handed = bytes }).handed ≡
-    (if done and reads then bytes else [])
-unfolding if◌then◌else◌ ◌or◌ ◌and◌
+    (when not done then nothing answer else when not reads or false then nothing 21 else record { answer = 0; handed = bytes }).handed ≡
+    (when done and reads then bytes else [])
+unfolding when◌then◌else◌ ◌or◌ ◌and◌
 done-or-not true true answer bytes = refl
 done-or-not true false answer bytes = refl
 done-or-not false reads answer bytes = refl
@@ -76,7 +76,7 @@ hands_up_lem : (job : Job) (status made answer count : ℕ) (fetched : List ℕ)
     (take_of (stand stage.Over job status made false answer count false) fetched 68).handed ≡ hands_up job answer fetched
 unfolding take_of take_done hands_up stage_number
 hands_up_lem job status made answer count fetched l =
-    ap (λ (t : Taken). t.handed) (if-false _ _ _ refl)
+    ap (λ (t : Taken). t.handed) (when-false _ _ _ refl)
     ∙ rw (le-ltb 68 job.n l) (done-or-not (eqb answer 0) (eqb (bit_of job.direction) 1) answer (take job.n fetched))
 
 -- the port is over: later pairs aren't looked at
@@ -116,7 +116,7 @@ module _ {room places : ℕ} {job : Job} (payload : List ℕ) (form : Formed job
     -- nothing more comes, or what came was refused
     breaks_so_lem : (answer refused : ℕ) → eqb answer 0 ≡ false → among answer (0 ∷ 23 ∷ 24 ∷ []) ≡ false →
         Gives job (breaks_so (waits_at job kept w) answer refused p.events) (breaks p answer refused)
-    unfolding breaks_so breaks given_up give_up_of take_of hands_up unsettled stage_number if◌then◌else◌ ◌or◌ ◌and◌
+    unfolding breaks_so breaks given_up give_up_of take_of hands_up unsettled stage_number when◌then◌else◌ ◌or◌ ◌and◌
     breaks_so_lem answer refused z n =
         record {
           result = refl;
@@ -141,7 +141,7 @@ module _ {room places : ℕ} {job : Job} (payload : List ℕ) (form : Formed job
   sends_so event value {r} {u} g =
       record {
         result = g.result;
-        sent = ap (λ (xs : List ℕ). if eqb event 6 then value ∷ xs else xs) g.sent;
+        sent = ap (λ (xs : List ℕ). when eqb event 6 then value ∷ xs else xs) g.sent;
         handed = g.handed;
         leaves = record {
           still-sound = g.leaves.still-sound;
@@ -155,23 +155,23 @@ module _ {room places : ℕ} {job : Job} (payload : List ℕ) (form : Formed job
   -- after the work of a pair
   goes_on_lem : (s : At) (q : Progress) (rest : List ℕ) (events : ℕ) → q.events ≡ events → Woken job kept s q →
       (q.over ≡ false → Held q → (w : Waits job kept q) → Gives job (plays (waits_at job kept w) q.events rest) (run table q rest)) →
-      Gives job (plays s events rest) (if q.over then closes q else run table q rest)
+      Gives job (plays s events rest) (when q.over then closes q else run table q rest)
   goes_on_lem s q rest events n (waiting w e l h) later =
-      subst (λ (u : Run). Gives job (plays s events rest) u) (sym (if-false _ _ _ l))
+      subst (λ (u : Run). Gives job (plays s events rest) u) (sym (when-false _ _ _ l))
       (subst (λ (k : ℕ). Gives job (plays s k rest) (run table q rest)) n
       (subst (λ (u : At). Gives job (plays u q.events rest) (run table q rest)) (sym e) (later l h w)))
   goes_on_lem s q rest events n (over e) later =
-      subst (λ (u : Run). Gives job (plays s events rest) u) (sym (if-true _ _ _ e.over))
+      subst (λ (u : Run). Gives job (plays s events rest) u) (sym (when-true _ _ _ e.over))
       (subst (λ (k : ℕ). Gives job (plays s k rest) (closes q)) n (ends_so_lem s q rest e))
 
   either_way : (b : Bool) (x y : Played) (u v : Run) → (b ≡ true → Gives job x u) → (b ≡ false → Gives job y v) →
-      Gives job (if b then x else y) (if b then u else v)
-  unfolding if◌then◌else◌
+      Gives job (when b then x else y) (when b then u else v)
+  unfolding when◌then◌else◌
   either_way true x y u v f k = f refl
   either_way false x y u v f k = k refl
 
   pub plays-run : (script : List ℕ) → Rest script
-  unfolding plays run unless_over asks asks_at taking among if◌then◌else◌
+  unfolding plays run unless_over asks asks_at taking among when◌then◌else◌
   plays-run [] carried sent p g h w = breaks_so_lem g h w 27 0 refl refl
   plays-run (event ∷ []) carried sent p g h w = breaks_so_lem g h w 27 0 refl refl
   plays-run (event ∷ argument ∷ rest) carried sent p g h w =

@@ -3,7 +3,7 @@ use mathlib.Core.Bool.{true, false}
 use mathlib.Core.Path.{◌≡◌, refl, subst, ◌∙◌}
 use Prim.Native.Nat.{ℕ, zero, suc, ◌+◌, ◌≤◌}
 use native.Mathlib.Omega.{arith}
-use Rattle.notation.proofs.Cases.{if-true, if-false}
+use Rattle.notation.proofs.Cases.{when-true, when-false}
 use Rattle.port.specs.Port.{asking}
 use Rattle.port_job.specs.OnModel.{At, exchange, no_access, rests_in}
 
@@ -22,10 +22,10 @@ joined (suc n) e (further a p) q = further a (joined n (omega (arith, e)) p q)
 pub at_rest_lem : (m : ℕ) (s : At) → no_access (asking s.port) ≡ true → rests_in m s ≡ s
 unfolding rests_in
 at_rest_lem zero s e = refl
-at_rest_lem (suc m) s e = if-true _ _ _ e
+at_rest_lem (suc m) s e = when-true _ _ _ e
 
 pub rests : {s t : At} {k : ℕ} (m : ℕ) → Reaches k s t → no_access (asking t.port) ≡ true → k ≤ m → rests_in m s ≡ t
 unfolding rests_in
 rests {s} m there e h = at_rest_lem m s e
 rests zero (further a p) e h = absurd (omega arith)
-rests (suc m) (further a p) e h = if-false _ _ _ a ∙ rests m p e (omega arith)
+rests (suc m) (further a p) e h = when-false _ _ _ a ∙ rests m p e (omega arith)

@@ -22,8 +22,8 @@ use Rattle.driver.specs.Run.{Run, closes, breaks, sending, taking, run}
 use Rattle.laws.proofs.Addresses.{silent-without-aa}
 use Rattle.laws.proofs.Soundness.{event-stays-sound}
 use Rattle.notation.proofs.Among.{has, every, same, passes, one_of, apart, clash}
-use Rattle.notation.proofs.Cases.{if-true, if-false, and_left}
-use Rattle.notation.specs.Choice.{if◌then◌else◌, among}
+use Rattle.notation.proofs.Cases.{when-true, when-false, and_left}
+use Rattle.notation.specs.Choice.{when◌then◌else◌, among}
 use Rattle.port_job.specs.Traffic.{OthersTraffic, after_pairs, pairs, later, TrafficFirst}
 use Rattle.runs.proofs.Begins.{begins_to, ready-waits}
 use Rattle.runs.proofs.Invariant.{waiting_turns}
@@ -68,8 +68,8 @@ module _ (n : ℕ) where
   follows-counted finishes p = refl
 
   either-counted : (b : Bool) (x y x' y' : Progress) → x' ≡ with_events x n → y' ≡ with_events y n →
-      (if b then x' else y') ≡ with_events (if b then x else y) n
-  unfolding if◌then◌else◌
+      (when b then x' else y') ≡ with_events (when b then x else y) n
+  unfolding when◌then◌else◌
   either-counted true x y x' y' e f = e
   either-counted false x y x' y' e f = f
 
@@ -84,9 +84,9 @@ module _ (n : ℕ) where
 -- and by no run: with so many pairs taken before it, it is the same
 module _ (k : ℕ) where
   either-later : (b d : Bool) (event value : ℕ) (x y z : Run) →
-      (if b then sending event value (if d then later k x else later k y) else later k z) ≡
-      later k (if b then sending event value (if d then x else y) else z)
-  unfolding if◌then◌else◌ sending later
+      (when b then sending event value (when d then later k x else later k y) else later k z) ≡
+      later k (when b then sending event value (when d then x else y) else z)
+  unfolding when◌then◌else◌ sending later
   either-later true true event value x y z = refl
   either-later true false event value x y z = refl
   either-later false d event value x y z = refl
@@ -102,9 +102,9 @@ module _ (k : ℕ) where
       let taken = serve-events table event (taking p o.next) in
       let same : serve table event (taking (with_events p (p.events + k)) o.next) ≡ r =
       serve-counted (p.events + k + 1) table event (taking p o.next) ∙ ap (λ (n : ℕ). with_events q n) (omega arith) in
-      ap (λ (u : Progress). if eqb o.refused 0 then sending event o.value (if u.over then closes u else run table u rest)
+      ap (λ (u : Progress). when eqb o.refused 0 then sending event o.value (when u.over then closes u else run table u rest)
       else later k (breaks p 28 o.refused)) same
-      ∙ ap (λ (u : Run). if eqb o.refused 0 then sending event o.value (if q.over then later k (closes q) else u)
+      ∙ ap (λ (u : Run). when eqb o.refused 0 then sending event o.value (when q.over then later k (closes q) else u)
       else later k (breaks p 28 o.refused)) (run-later table rest q)
       ∙ either-later (eqb o.refused 0) q.over event o.value (closes q) (run table q rest) (breaks p 28 o.refused)
 
@@ -113,7 +113,7 @@ unfolding later
 later-again k r = rw (add_assoc r.result.events k 1)
 
 unsent : (number value : ℕ) (r : Run) → eqb number 6 ≡ false → sending number value r ≡ r
-unfolding sending if◌then◌else◌
+unfolding sending when◌then◌else◌
 unsent number value r e = rw e
 
 -- with AA 0 no address byte matches
@@ -166,13 +166,13 @@ module _ (c b : Controller) (waits : among (kind c.turn) waiting_turns ≡ true)
   no_38h o o' e = absurd (true≢false (sym e ∙ idle_not_38h _ (apart _ waiting_turns (host ∷ []) tt waits)))
 
   -- a test of both, which has one outcome
-  chosen : (x : Bool) (o p o' p' : Outcome) → (x ≡ true → Alike o o') → (x ≡ false → Alike p p') → Alike (if x then o else p) (if x then o' else p')
-  unfolding if◌then◌else◌
+  chosen : (x : Bool) (o p o' p' : Outcome) → (x ≡ true → Alike o o') → (x ≡ false → Alike p p') → Alike (when x then o else p) (when x then o' else p')
+  unfolding when◌then◌else◌
   chosen true o p o' p' f h = f refl
   chosen false o p o' p' f h = h refl
 
-  both-sound : (x x' : Bool) (o p o' p' : Outcome) → x ≡ true → x' ≡ true → Alike o o' → Alike (if x then o else p) (if x' then o' else p')
-  both-sound x x' o p o' p' e e' a = rw (if-true x o p e, if-true x' o' p' e') a
+  both-sound : (x x' : Bool) (o p o' p' : Outcome) → x ≡ true → x' ≡ true → Alike o o' → Alike (when x then o else p) (when x' then o' else p')
+  both-sound x x' o p o' p' e e' a = rw (when-true x o p e, when-true x' o' p' e') a
 
   event-alike : (argument : ℕ) → c.control.aa ≡ false → b.control.aa ≡ false → sound c ≡ true → sound d ≡ true →
       Alike (event_of c number argument) (event_of d number argument)
@@ -208,7 +208,7 @@ module _ (job : Job) where
 
   -- another turn before them is that turn after them
   turned : (c : Controller) (t : Turn) → Waiting c → Waiting (with_turn c t) → (first (with_turn c t)).controller ≡ with_turn (first c).controller t
-  unfolding starts starting does_all does keeps if◌then◌else◌
+  unfolding starts starting does_all does keeps when◌then◌else◌
   turned c t w w' =
       let off : (x : ℕ) → among x waiting_turns ≡ true → among x (stopping ∷ []) ≡ false = λ x. apart x waiting_turns (stopping ∷ []) tt in
       rw (
@@ -268,10 +268,10 @@ module _ (job : Job) where
         let idle = ap status_of (turn-stays n w) ∙ status-idle n.turn (apart _ waiting_turns (host ∷ []) tt w.turn) in
         let waits =
         at-idle table number q (another 14 number which tt) (another 4 number which tt) (first-sound n w) (ap (λ (x : ℕ). eqb x 0xF8) idle) in
-        if-true _ _ _ (ap (λ (x : ℕ). eqb x 0) e.accepted)
-        ∙ ap (λ (u : Progress). sending number o.value (if u.over then closes u else run table u rest))
+        when-true _ _ _ (ap (λ (x : ℕ). eqb x 0) e.accepted)
+        ∙ ap (λ (u : Progress). sending number o.value (when u.over then closes u else run table u rest))
         (ap (λ (d : Controller). serve table number (taking (first c) d)) e.next ∙ waits)
-        ∙ ap (sending number o.value) (if-false _ _ _ refl) ∙ unsent number o.value _ (another 6 number which tt) ∙ run-later 1 table rest (first n)
+        ∙ ap (sending number o.value) (when-false _ _ _ refl) ∙ unsent number o.value _ (another 6 number which tt) ∙ run-later 1 table rest (first n)
 
     traffic_from : (traffic script : List ℕ) (c : Controller) → Waiting c → OthersTraffic traffic c →
         run table (first c) (traffic ++ script) ≡ later (pairs traffic) (run table (first (after_pairs traffic c)) script)

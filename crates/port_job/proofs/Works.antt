@@ -10,8 +10,8 @@ use lib.ListN.{length, length-append}
 use Rattle.control.specs.Flags.{reads_as}
 use Rattle.controller.specs.Record.{interrupts, sound}
 use Rattle.controller.specs.declared.record.Controller.{Controller}
-use Rattle.notation.proofs.Cases.{if-true, if-false}
-use Rattle.notation.specs.Choice.{if◌then◌else◌}
+use Rattle.notation.proofs.Cases.{when-true, when-false}
+use Rattle.notation.specs.Choice.{when◌then◌else◌}
 use Rattle.port.specs.Hear.{concludes, enters, hears_at, hears, noted_at, asks_at, asks}
 use Rattle.port.specs.InHand.{accesses, notes}
 use Rattle.port.specs.Look.{still_control}
@@ -69,13 +69,13 @@ module _ (job : Job) (kept : List ℕ) (status answer : ℕ) (work : Work) (ours
 
   enters_as : (xs : List Act) → accesses q.count work.acts ≡ xs →
       enters (stand Interrupted job before made due answer q.count false) status work ≡
-      (if eqb (length xs) 0 then concludes work.after first else first)
+      (when eqb (length xs) 0 then concludes work.after first else first)
   unfolding enters
   enters_as xs e = rw e
 
   -- from the first access on
   from_first : {k : ℕ} {s : Stand} (last : ℕ) (xs : List Act) → Flat work.acts xs →
-      (if eqb (length xs) 0 then concludes work.after first else first) ≡ s →
+      (when eqb (length xs) 0 then concludes work.after first else first) ≡ s →
       Reaches k (holding kept s noted) (done last (does_all xs noted)) → Reaches k entered (done last (does_all work.acts q))
   from_first {k} {s} last xs f e h =
       subst (λ (r : Progress). Reaches k entered (done last r)) (sym (f.does q))
@@ -89,12 +89,12 @@ module _ (job : Job) (kept : List ℕ) (status answer : ℕ) (work : Work) (ours
 
   works-straight : (xs : List Act) → Flat work.acts xs → eqb status 0x58 ≡ false → Worked
   unfolding does_all
-  works-straight [] f n = record { k = 0; few = omega arith; last = 0; reaches = from_first 0 [] f (if-true _ _ _ refl) there }
+  works-straight [] f n = record { k = 0; few = omega arith; last = 0; reaches = from_first 0 [] f (when-true _ _ _ refl) there }
   works-straight (x ∷ rest) f n =
       let d = drives (hand kept single _ _ _ (working job kept status answer (x ∷ rest) work.after (steady f) line n)) rest x 0 noted refl f.each l in
       let some = ne_eqb (suc (length rest)) 0 (omega arith) in
       let short = f.short in
-      record { k = suc (length rest); few = omega arith; last = d.last; reaches = from_first d.last (x ∷ rest) f (if-false _ _ _ some) d.reaches }
+      record { k = suc (length rest); few = omega arith; last = d.last; reaches = from_first d.last (x ∷ rest) f (when-false _ _ _ some) d.reaches }
 
   -- bytes are read back, and I2CCON shows what it showed before them
   module _ (front : List Act) (value : ℕ) (f : Flat work.acts (front ++ (writes 3 value ∷ []))) where
@@ -112,12 +112,12 @@ module _ (job : Job) (kept : List ℕ) (status answer : ℕ) (work : Work) (ours
     finishes o = finishing job kept status answer _ work.after (steady f) line front (writes 3 value) refl fetched tt (all_note front noted o ∙ l)
 
     looks : Each single front → AllWrite [] front → Reaches 2 (holding kept (stands_at Recheck) fetched) end
-    unfolding hears hears_at asks asks_at noted_at stage_number if◌then◌else◌
+    unfolding hears hears_at asks asks_at noted_at stage_number when◌then◌else◌
     looks o w =
         let c = fetched.controller in
         let same = acts-keep control_of (λ _ _. refl) [] (λ _ _ _ t. absurd t) front noted w in
         after_read_lem kept (stands_at Recheck) fetched 3 (control_of c) (all_note front noted o ∙ l) refl refl (control-read c (acts-sound front noted sounds))
-        (subst (λ (s : Stand). Reaches 1 (holding kept s fetched) end) (sym (if-true _ _ _ (ap still_control same ∙ still))) (finishes o))
+        (subst (λ (s : Stand). Reaches 1 (holding kept s fetched) end) (sym (when-true _ _ _ (ap still_control same ∙ still))) (finishes o))
 
     rechecks : {k : ℕ} → k ≤ length front + 2 → Reaches k (holding kept first noted) end → Worked
     unfolding does_all
@@ -130,7 +130,7 @@ module _ (job : Job) (kept : List ℕ) (status answer : ℕ) (work : Work) (ours
           few = omega arith;
           last = length front;
           reaches =
-              from_first (length front) _ f (if-false _ _ _ some)
+              from_first (length front) _ f (when-false _ _ _ some)
               (subst (λ (r : Progress). Reaches k (holding kept first noted) (done (length front) r)) (sym (does-both front _ noted)) reach);
         }
 

@@ -3,7 +3,7 @@ use Rattle.std.specs.Prelude.{Bool, List, ℕ, eqb, length}
 use Rattle.controller.specs.Event.{event_of}
 use Rattle.controller.specs.declared.record.Controller.{Controller}
 use Rattle.driver.specs.Run.{Report, run, reports, declines}
-use Rattle.notation.specs.Choice.{if◌then◌else◌, ◌and◌}
+use Rattle.notation.specs.Choice.{when◌then◌else◌, ◌and◌}
 use Rattle.port.specs.Begin.{unfit, unsettled}
 use Rattle.port.specs.Look.{idle_control}
 use Rattle.port.specs.declared.stand.Stand.{Stand}
@@ -36,7 +36,7 @@ looks_ready c = idle_control (reads c 3) and eqb (reads c 0) 0xF8
 -- `ready`; and a job is begun in Busy and Listen too, where another master has the bus.
 unfoldable pub port_job_of : Job → List ℕ → List ℕ → Stand → Controller → Report
 port_job_of asked payload script s c =
-    if unfit asked (length payload) then declines c 21
-    else if unsettled s then declines c 22
-    else if looks_ready c then reports asked (run (job_table asked payload) (starts (begins asked) c) script)
+    when unfit asked (length payload) then declines c 21
+    else when unsettled s then declines c 22
+    else when looks_ready c then reports asked (run (job_table asked payload) (starts (begins asked) c) script)
     else declines c 22

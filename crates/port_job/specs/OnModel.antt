@@ -5,7 +5,7 @@ use Rattle.controller.specs.Event.{event_of}
 use Rattle.controller.specs.Reply.{Outcome, accepts}
 use Rattle.controller.specs.declared.record.Controller.{Controller}
 use Rattle.driver.specs.Run.{Result, Report}
-use Rattle.notation.specs.Choice.{if◌then◌else◌}
+use Rattle.notation.specs.Choice.{when◌then◌else◌}
 unfoldable pub use Rattle.port.specs.Ask.{no_access}
 use Rattle.port.specs.Port.{Port, step, asking, started, recovering, given_up, taken}
 use Rattle.port.specs.declared.ask.Ask.TheVariants.{Write, Read, Wait, Pause, Over}
@@ -35,7 +35,7 @@ exchange s = let o = answers (asking s.port) s.chip in at (step s.port o.value) 
 -- accesses are made until none is asked for. (There are at most 72 in a row: `Rests`, crates/port_chip.)
 unfoldable pub rests_in : ℕ → At → At
 rests_in zero s = s
-rests_in (suc more) s = if no_access (asking s.port) then s else rests_in more (exchange s)
+rests_in (suc more) s = when no_access (asking s.port) then s else rests_in more (exchange s)
 
 abbrev pub at_rest : At → At
 at_rest s = rests_in 72 s
@@ -68,7 +68,7 @@ breaks_so s answer refused events = record {
 
 -- a byte that event 6 sent, and those of the rest
 unfoldable pub sending_so : ℕ → ℕ → Played → Played
-sending_so event value r = record { result = r.result; sent = if eqb event 6 then value ∷ r.sent else r.sent; port = r.port }
+sending_so event value r = record { result = r.result; sent = when eqb event 6 then value ∷ r.sent else r.sent; port = r.port }
 
 -- over, or what else
 unfoldable pub unless_over : Ask → At → ℕ → Played → Played
@@ -85,7 +85,7 @@ plays s events (event ∷ []) = unless_over (asking s.port) s events (breaks_so 
 plays s events (event ∷ argument ∷ rest) =
     let o = event_of s.chip event argument in
     unless_over (asking s.port) s events
-    (if eqb o.refused 0
+    (when eqb o.refused 0
     then sending_so event o.value (plays (woken s.port o.next) (events + 1) rest)
     else breaks_so s 28 o.refused events)
 

@@ -15,12 +15,12 @@ use Rattle.controller.specs.Reply.{refuses, accepts}
 use Rattle.controller.specs.Reset.{reset_registers, reset_with}
 use Rattle.controller.specs.Setters.{made}
 use Rattle.controller.specs.declared.record.Controller.{Controller}
-use Rattle.notation.specs.Choice.{if◌then◌else◌, ◌and◌, ◌or◌, among}
+use Rattle.notation.specs.Choice.{when◌then◌else◌, ◌and◌, ◌or◌, among}
 use Rattle.requests.specs.Jobs.{fresh_enabled}
 
 pub fresh_enabled_is :
     fresh_enabled ≡ made (replicate 68 0) 0 0 0 false reset_registers (record { aa = false; ensio = true; sta = false; sto = false; mode = false }) Free NoneYet
-unfolding if◌then◌else◌ ◌and◌ ◌or◌ among flags_of kind status_of response indirect_at bars_write write_sound write_of keeps controlled bad_count
+unfolding when◌then◌else◌ ◌and◌ ◌or◌ among flags_of kind status_of response indirect_at bars_write write_sound write_of keeps controlled bad_count
     enabled write_flags write_control host_sound move_sound sound wrote refuses accepts reset_with
 fresh_enabled_is = refl
 

@@ -5,11 +5,11 @@ use Rattle.controller.specs.Access.{read_of, write_of}
 use Rattle.controller.specs.Event.{event_of}
 use Rattle.controller.specs.Reply.{Outcome}
 use Rattle.controller.specs.declared.record.Controller.{Controller}
-use Rattle.notation.specs.Choice.{if◌then◌else◌}
+use Rattle.notation.specs.Choice.{when◌then◌else◌}
 
 -- kind 0 and 1 as above, any other an event; a read looks at no third byte
 unfoldable pub group_of : Controller → ℕ → ℕ → ℕ → Outcome
 group_of c kind place value =
-    if eqb kind 0 then read_of c place
-    else if eqb kind 1 then write_of c place value
+    when eqb kind 0 then read_of c place
+    else when eqb kind 1 then write_of c place value
     else event_of c place value

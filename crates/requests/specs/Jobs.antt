@@ -6,7 +6,7 @@ use Rattle.controller.specs.Access.{write_of}
 use Rattle.controller.specs.Reset.{fresh}
 use Rattle.controller.specs.declared.record.Controller.{Controller}
 use Rattle.service.specs.declared.job.Job.{Job}
-use Rattle.notation.specs.Choice.{if◌then◌else◌}
+use Rattle.notation.specs.Choice.{when◌then◌else◌}
 
 -- "a fresh controller enabled by 40h"
 abbrev pub fresh_enabled : Controller
@@ -14,7 +14,7 @@ fresh_enabled = (write_of fresh 3 0x40).next
 
 -- "kind (0 write, 1 read)"
 unfoldable pub direction_for : ℕ → Direction
-direction_for kind = if eqb kind 0 then Write else Read
+direction_for kind = when eqb kind 0 then Write else Read
 
 -- "kind .., address, n"
 abbrev pub job_for : ℕ → ℕ → ℕ → Job

@@ -5,12 +5,12 @@ use Prim.Native.Nat.{ℕ, ◌+◌}
 use Rattle.control.specs.Flags.{weighs}
 use Rattle.control.specs.Writing.{responds_at, end_or}
 use Rattle.control.specs.declared.flags.Control.{Control}
-use Rattle.notation.specs.Choice.{if◌then◌else◌}
+use Rattle.notation.specs.Choice.{when◌then◌else◌}
 use Rattle.responses.specs.Table.{column_of, pattern_of, entry_at}
 
 column_pattern : (sta sto aa mode : Bool) →
     pattern_of (weighs sta 8 + weighs sto 4 + weighs aa 2 + weighs mode 1) ≡ record { aa = aa; ensio = true; sta = sta; sto = sto; mode = mode }
-unfolding pattern_of weighs if◌then◌else◌
+unfolding pattern_of weighs when◌then◌else◌
 column_pattern true true true true = refl
 column_pattern true true true false = refl
 column_pattern true true false true = refl

@@ -12,7 +12,7 @@ use Rattle.controller.specs.I2ccon.{controlled, enabled, without_start}
 use Rattle.controller.specs.Record.{sound}
 use Rattle.controller.specs.Reply.{Outcome, refuses}
 use Rattle.controller.specs.declared.record.Controller.{Controller}
-use Rattle.notation.specs.Choice.{if◌then◌else◌, among}
+use Rattle.notation.specs.Choice.{when◌then◌else◌, among}
 use Rattle.responses.specs.Table.{entry_at}
 use Rattle.responses.specs.declared.entry.Entry.TheVariants.{Never, Beside, Stays, Refused, Next}
 use Rattle.responses.specs.declared.entry.Entry.{Entry}
@@ -21,9 +21,9 @@ use Rattle.responses.specs.declared.entry.Entry.{Entry}
 -- `entry_at` gives `Beside` at A0h and F8h alone, and no sound record is in Host at F8h. "Free after a STOP, Listen after a START".
 unfoldable pub beside_table : Controller → Control → Outcome
 beside_table c k =
-    if waits c.turn wire_turns then refuses c 3
-    else if waits c.turn (off ∷ []) then controlled c k Free
-    else if waits c.turn (host ∷ []) then controlled c k (after_edge (edge_of c.turn))
+    when waits c.turn wire_turns then refuses c 3
+    else when waits c.turn (off ∷ []) then controlled c k Free
+    else when waits c.turn (host ∷ []) then controlled c k (after_edge (edge_of c.turn))
     else controlled c k c.turn
 
 -- what an entry makes of a write with ENSIO 1. A next turn is taken by the controller's own `enabled`, which refuses a BC that is not valid; a record
@@ -39,8 +39,8 @@ by_entry c k (Next turn) = enabled c k (response.Next turn)
 -- STA 0"
 unfoldable pub disabled : Controller → Control → Outcome
 disabled c k =
-    if waits c.turn wire_turns then refuses c 3
-    else if among (status_of c.turn) faults then refuses c 4
+    when waits c.turn wire_turns then refuses c 3
+    else when among (status_of c.turn) faults then refuses c 4
     else controlled c (without_start k) Off
 
 -- So the entry for its status and four bits says, of every sound record and every byte with ENSIO 1, what the controller's own write does with it.

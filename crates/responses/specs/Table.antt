@@ -10,7 +10,7 @@ use Rattle.control.specs.declared.turn.Edge.TheVariants.{Stop}
 use Rattle.control.specs.declared.writing.Response.TheVariants as response
 use Rattle.control.specs.declared.writing.Response.{Response}
 use Rattle.controller.specs.Record.{given_statuses}
-use Rattle.notation.specs.Choice.{if◌then◌else◌, among}
+use Rattle.notation.specs.Choice.{when◌then◌else◌, among}
 use Rattle.responses.specs.Entry.{names}
 use Rattle.responses.specs.declared.entry.Entry.TheVariants.{Never, Beside, Stays, Refused, Next}
 use Rattle.responses.specs.declared.entry.Entry.{Entry}
@@ -32,16 +32,16 @@ pattern_of column = record {
 -- what the rules answer, as an entry: a turn that is Host is the one that the controller is in, at 38h
 unfoldable pub as_entry : Response → Entry
 as_entry response.Unlisted = Refused refusal.Unlisted
-as_entry (response.Next turn) = if waits turn (host ∷ []) then Stays else Next turn
+as_entry (response.Next turn) = when waits turn (host ∷ []) then Stays else Next turn
 
 -- the entry for a status and flags, ENSIO not looked at. A0h and F8h: "are beside the table, and their 32 entries say only that". 00h, 70h, 78h: refusal
 -- 4. A status that some event gives: what the controller's own rule answers; any bus condition will do, since it matters at A0h alone. Else: "codes that
 -- never occur".
 unfoldable pub entry_at : ℕ → Control → Entry
 entry_at status k =
-    if among status (0xA0 ∷ 0xF8 ∷ []) then Beside
-    else if among status faults then Refused refusal.Locked
-    else if among status given_statuses then as_entry (responds_at status Stop k)
+    when among status (0xA0 ∷ 0xF8 ∷ []) then Beside
+    else when among status faults then Refused refusal.Locked
+    else when among status given_statuses then as_entry (responds_at status Stop k)
     else Never
 
 -- "Show once, over the whole table, that it agrees with document 01's rules as Ask 2 left them": the number at every row and column names what the

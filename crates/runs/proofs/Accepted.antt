@@ -30,7 +30,7 @@ use Rattle.laws.proofs.Soundness.{read-stays-sound, event-stays-sound}
 use Rattle.laws.proofs.Status.{status-reads, status-accepted}
 use Rattle.notation.proofs.Among.{among-has, one_of}
 use Rattle.notation.proofs.Cases.{split}
-use Rattle.notation.specs.Choice.{if◌then◌else◌, ◌and◌, ◌or◌, among}
+use Rattle.notation.specs.Choice.{when◌then◌else◌, ◌and◌, ◌or◌, among}
 use Rattle.runs.proofs.Begins.{begun, first-accepted}
 use Rattle.runs.proofs.ComesFrom.{Given, event-comes}
 use Rattle.runs.proofs.DataMoves.{load_all, fetch-all}
@@ -57,7 +57,7 @@ use Rattle.service.specs.declared.progress.Progress.{Progress}
 control-here : (d : Controller) (status : ℕ) (edge : Edge) (value : ℕ) (t : Turn) → sound d ≡ true → d.turn ≡ turn.Host status edge →
     among status faults ≡ false → (flags_of value).ensio ≡ true → responds_at status edge (flags_of value) ≡ Next t →
     bad_count d (flags_of value) t ≡ false → (write_of d 3 value).refused ≡ 0
-unfolding response kind status_of edge_of among if◌then◌else◌
+unfolding response kind status_of edge_of among when◌then◌else◌
 control-here d status edge value t s h l e r b = not-refused _ _ _ (control-accepted d value (turn.Host status edge) t s h refl l e r b)
 
 -- I2CDAT, so many bytes written and read
@@ -130,7 +130,7 @@ module _ {room places : ℕ} {job : Job} (payload : List ℕ) (form : Formed job
     stops k e l r d s t = control-here d k _ 0x50 turn.Stopping s (t ∙ at k e) l refl r refl
 
     addressed : (byte : ℕ) → status ≡ 0x08 → AllAccepted (address_work byte).acts (taking p next)
-    unfolding does taking responds_at among flags_of bad_count if◌then◌else◌ ◌and◌
+    unfolding does taking responds_at among flags_of bad_count when◌then◌else◌ ◌and◌
     addressed byte e =
         let h = given.hand in
         let written = data_written_lem next byte still-sound off-wire (omega (arith, h)) in
@@ -140,7 +140,7 @@ module _ {room places : ℕ} {job : Job} (payload : List ℕ) (form : Formed job
         (first, (subst (λ (d : Controller). (write_of d 3 0x40).refused ≡ 0) (sym written) asks, tt))
 
     loaded : status ≡ 0x18 → AllAccepted (data_work (take job.n payload)).acts (taking p next)
-    unfolding taking responds_at end_or among flags_of if◌then◌else◌
+    unfolding taking responds_at end_or among flags_of when◌then◌else◌
     loaded e =
         let xs = take job.n payload in
         let h = given.hand in
@@ -152,11 +152,11 @@ module _ {room places : ℕ} {job : Job} (payload : List ℕ) (form : Formed job
         (control-here (written xs next) 0x18 _ 0x41 turn.Send l.sound (l.turn ∙ at 0x18 e) refl refl refl fair, tt)
 
     received : status ≡ 0x40 → AllAccepted receive_work.acts (taking p next)
-    unfolding taking responds_at among flags_of if◌then◌else◌ ◌or◌
+    unfolding taking responds_at among flags_of when◌then◌else◌ ◌or◌
     received e = (control-here next 0x40 _ 0x41 turn.Receive still-sound (at 0x40 e) refl refl refl (fair_count payload form next _ _ count), tt)
 
     found : status ≡ 0x30 → AllAccepted data_nacked_work.acts (taking p next)
-    unfolding does taking responds_at end_or among flags_of if◌then◌else◌
+    unfolding does taking responds_at end_or among flags_of when◌then◌else◌
     found e =
         let back = finds_accepted next still-sound in
         let to = points-back next still-sound in
@@ -169,7 +169,7 @@ module _ {room places : ℕ} {job : Job} (payload : List ℕ) (form : Formed job
     few = split (λ (n : ℕ). n ≤ 68) _ _ _ (λ _. omega arith) (λ _. form.high)
 
     read_back_lem : status ≡ 0x58 → AllAccepted (received_work job.n).acts (taking p next)
-    unfolding does taking responds_at end_or among flags_of if◌then◌else◌
+    unfolding does taking responds_at end_or among flags_of when◌then◌else◌
     read_back_lem e =
         let h = given.hand in
         let n = few in
@@ -180,7 +180,7 @@ module _ {room places : ℕ} {job : Job} (payload : List ℕ) (form : Formed job
 
     -- the work, line by line of the table
     pub works : (noted : ℕ) → AllAccepted (job_table job payload status noted).acts (taking p next)
-    unfolding job_table does taking responds_at end_or among flags_of bad_count if◌then◌else◌ ◌and◌
+    unfolding job_table does taking responds_at end_or among flags_of bad_count when◌then◌else◌ ◌and◌
     works noted =
         let P : Work → Type 0 = λ w. AllAccepted w.acts (taking p next) in
         let is : (k : ℕ) → eqb status k ≡ true → status ≡ k = λ k t. eqb-true status k t in
@@ -255,7 +255,7 @@ module _ {room places : ℕ} {job : Job} (payload : List ℕ) (form : Formed job
       let P : List ℕ → Type 0 = λ xs. EachAmong xs job_statuses in
       let q = serve table event (taking p (event_of p.controller event argument).next) in
       split P _ _ _
-      (λ a. each_append (status_seen event (taking p (event_of p.controller event argument).next)) (if q.over then [] else met table q rest) job_statuses
+      (λ a. each_append (status_seen event (taking p (event_of p.controller event argument).next)) (when q.over then [] else met table q rest) job_statuses
       (seen-listed payload form g event argument)
       (split P q.over [] (met table q rest) (λ _. tt) (λ l. met-listed rest (on g event argument a l))))
       (λ _. tt)

@@ -12,7 +12,7 @@ use Rattle.controller.specs.Setters.{with_hand}
 use Rattle.controller.specs.declared.record.Controller.{Controller}
 use Rattle.notation.proofs.Among.{has}
 use Rattle.notation.proofs.Cases.{split}
-use Rattle.notation.specs.Choice.{if◌then◌else◌}
+use Rattle.notation.specs.Choice.{when◌then◌else◌}
 use Rattle.service.specs.Act.{Act, writes, reads_data, reads_all, reads_count, counts, Then, goes_on, awaits, ends, finishes}
 use Rattle.service.specs.Act.{put, fetch_one, fetch, read_times, does, does_all, follows}
 use Rattle.service.specs.declared.progress.Progress.{Progress}
@@ -50,7 +50,7 @@ module _ {A : Type 0} (part : Controller → A) where
   unfolding accepts
   accepted c d v e = record { kept = e }
 
-  pub chosen : (c : Controller) (b : Bool) (x y : Outcome) → (b ≡ true → Kept c x) → (b ≡ false → Kept c y) → Kept c (if b then x else y)
+  pub chosen : (c : Controller) (b : Bool) (x y : Outcome) → (b ≡ true → Kept c x) → (b ≡ false → Kept c y) → Kept c (when b then x else y)
   chosen c b x y f g = split (Kept c) b x y f g
 
   -- the register is another

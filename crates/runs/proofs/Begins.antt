@@ -20,7 +20,7 @@ use Rattle.controller.specs.Reply.{Outcome, accepts}
 use Rattle.controller.specs.Setters.{with_pointer, with_armed, with_registers}
 use Rattle.controller.specs.declared.record.Controller.{Controller}
 use Rattle.notation.proofs.Among.{among-has, within, apart}
-use Rattle.notation.proofs.Cases.{if-false, and_left, and_right}
+use Rattle.notation.proofs.Cases.{when-false, and_left, and_right}
 use Rattle.notation.specs.Choice.{◌and◌, among}
 use Rattle.service.proofs.AccessesLeave.{not-refused, controlled_to, control-accepted, pointer-accepted, pointer-written, count-accepted, count-written}
 use Rattle.service.proofs.Sound.{put-sound}
@@ -36,7 +36,7 @@ use Rattle.service.specs.declared.job.Job.{Job}
 -- "F8h: the turn stays"
 turn-stays : (t : Turn) (k : Control) → among (kind t) waiting_turns ≡ true → response t k ≡ Next t
 unfolding response
-turn-stays t k w = if-false _ _ _ (apart _ waiting_turns (off ∷ []) tt w) ∙ if-false _ _ _ (apart _ waiting_turns (host ∷ []) tt w)
+turn-stays t k w = when-false _ _ _ (apart _ waiting_turns (off ∷ []) tt w) ∙ when-false _ _ _ (apart _ waiting_turns (host ∷ []) tt w)
 
 module _ (job : Job) (c : Controller) (s : sound c ≡ true) (w : among (kind c.turn) waiting_turns ≡ true) where
   abbrev count : ℕ

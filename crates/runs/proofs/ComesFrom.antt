@@ -18,7 +18,7 @@ use Rattle.controller.specs.Transfer.{address_status, data_out, byte_out, acknow
 use Rattle.controller.specs.declared.record.Controller.{Controller}
 use Rattle.notation.proofs.Among.{has, every, same, is_true, among-has, apart, within}
 use Rattle.notation.proofs.Cases.{split}
-use Rattle.notation.specs.Choice.{if◌then◌else◌, ◌and◌, among}
+use Rattle.notation.specs.Choice.{when◌then◌else◌, ◌and◌, among}
 use Rattle.runs.proofs.Invariant.{In, job_turns, early_turns, Good}
 use Rattle.runs.proofs.Receiving.{nacks_last}
 use Rattle.runs.proofs.Step.{here, not_38h, no_match}
@@ -69,11 +69,11 @@ module _ {job : Job} {payload carried : List ℕ} {sent : ℕ} {p : Progress} (g
   not-here : (o : Outcome) (ks : List ℕ) → In p ks → T (every (λ k. same (has ks k) false) job_turns) → Comes o
   not-here o ks t n = absurd (here g ks n t)
 
-  chosen : (b : Bool) (x y : Outcome) → (b ≡ true → Comes x) → (b ≡ false → Comes y) → Comes (if b then x else y)
+  chosen : (b : Bool) (x y : Outcome) → (b ≡ true → Comes x) → (b ≡ false → Comes y) → Comes (when b then x else y)
   chosen b x y f h = split Comes b x y f h
 
-  both : (a b : Bool) (x y : Outcome) → Comes (if a then (if b then x else y) else y) → Comes (if a and b then x else y)
-  unfolding ◌and◌ if◌then◌else◌
+  both : (a b : Bool) (x y : Outcome) → Comes (when a then (when b then x else y) else y) → Comes (when a and b then x else y)
+  unfolding ◌and◌ when◌then◌else◌
   both true b x y h = h
   both false b x y h = h
 

@@ -20,8 +20,8 @@ use Rattle.driver.specs.Run.{Result, Run, closes, breaks, sending, taking, run, 
 use Rattle.laws.proofs.Refusals.{Stays, of_sound_event, read_stays, write-stays, event-stays, sound-event-stays}
 use Rattle.laws.proofs.Soundness.{event-stays-sound}
 use Rattle.notation.proofs.Among.{has, is_true, among-has, within, clash}
-use Rattle.notation.proofs.Cases.{if-false, and_no_left, and_no_right, and_left, split}
-use Rattle.notation.specs.Choice.{if◌then◌else◌, among}
+use Rattle.notation.proofs.Cases.{when-false, and_no_left, and_no_right, and_left, split}
+use Rattle.notation.specs.Choice.{when◌then◌else◌, among}
 use Rattle.notation.specs.Overlay.{laid}
 use Rattle.runs.specs.Demand1.{AccessAnswered, job_answers, JobAnswered, Demand1}
 use Rattle.service.proofs.AnyTable.{acts_leave}
@@ -73,7 +73,7 @@ table_fine : (job : Job) (payload : List ℕ) (status count : ℕ) → Fine (job
 unfolding job_table
 table_fine job payload status count = search (chosen, tt) depth 20
   where
-    chosen : (b : Bool) (x y : Work) → Fine x → Fine y → Fine (if b then x else y)
+    chosen : (b : Bool) (x y : Work) → Fine x → Fine y → Fine (when b then x else y)
     chosen b x y f g = split Fine b x y (λ _. f) (λ _. g)
 
 follows-notes : (t : Then) (p : Progress) → NotesAfter t → Notes p.ending → Notes (follows t p).ending
@@ -112,7 +112,7 @@ refused : (p : Progress) (o : Outcome) → Stays p.controller of_sound_event o �
 unfolding breaks among
 refused p o s e = record {
   answer = among-has 28 (28 ∷ noted_answers);
-  beside = λ _. sym (if-false (eqb o.refused 0) true _ e) ∙ s.numbered;
+  beside = λ _. sym (when-false (eqb o.refused 0) true _ e) ∙ s.numbered;
   none_beside = λ t. absurd (true≢false t);
 }
 
@@ -163,8 +163,8 @@ module _ (job : Job) (payload : List ℕ) where
           beside = n.beside;
           none_beside = n.none_beside;
           declined = λ e. clash _ (28 ∷ noted_answers) (21 ∷ 22 ∷ []) tt n.answer e;
-          not_done = λ e. none _ (if-false _ _ _ (and_no_left _ _ e));
-          of_write = λ e. none _ (if-false _ _ _ (and_no_right _ _ (no_read job.direction e)));
+          not_done = λ e. none _ (when-false _ _ _ (and_no_left _ _ e));
+          of_write = λ e. none _ (when-false _ _ _ (and_no_right _ _ (no_read job.direction e)));
         }
 
     -- 21 and 22

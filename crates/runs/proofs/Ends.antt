@@ -15,7 +15,7 @@ use Rattle.controller.specs.Reset.{reset}
 use Rattle.controller.specs.declared.record.Controller.{Controller}
 use Rattle.driver.specs.Run.{taking}
 use Rattle.notation.proofs.Cases.{and_left, split}
-use Rattle.notation.specs.Choice.{if◌then◌else◌}
+use Rattle.notation.specs.Choice.{when◌then◌else◌}
 use Rattle.runs.proofs.Invariant.{In, Good, Stepped, ended}
 use Rattle.runs.proofs.Lines.{Line, lost_work, fault_work}
 use Rattle.runs.proofs.Step.{KeepsOrEnds, refusing, hosting, broken, not_38h, no_match}
@@ -42,13 +42,13 @@ module _ (table : Table) {job : Job} {payload carried : List ℕ} {sent : ℕ} {
 
   -- 14: the reset
   pub reset_pin_lem : (argument : ℕ) → S 14 argument (accepts (reset p.controller) 0)
-  unfolding accepts serve follows if◌then◌else◌
+  unfolding accepts serve follows when◌then◌else◌
   reset_pin_lem argument =
       record { step = λ s r. broken g 14 argument ending.Reset (λ e. omega (arith, e)) refl (taking p (reset p.controller)) }
 
   -- 4: own STOP, the one event that finishes a job
   finishing : (argument : ℕ) (d : Controller) → In p (stopping ∷ []) → S 4 argument (waits_for d turn.Free 0)
-  unfolding waits_for accepts serve follows taking if◌then◌else◌
+  unfolding waits_for accepts serve follows taking when◌then◌else◌
   finishing argument d t = record { step = λ s r. ended refl (λ z rd. (refl, g.stopped t z rd, g.whole.notes)) g.bound }
 
   pub own_stop_lem : (argument : ℕ) → S 4 argument (own_stop p.controller)

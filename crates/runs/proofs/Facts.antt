@@ -10,8 +10,8 @@ use lib.Seq.{append_snoc}
 use Rattle.address.specs.declared.number.Direction.TheVariants.{Read}
 use Rattle.controller.specs.declared.record.Controller.{Controller}
 use Rattle.driver.specs.Run.{Run, closes, breaks, sending, run}
-use Rattle.notation.proofs.Cases.{if-true, if-false, split}
-use Rattle.notation.specs.Choice.{if◌then◌else◌}
+use Rattle.notation.proofs.Cases.{when-true, when-false, split}
+use Rattle.notation.specs.Choice.{when◌then◌else◌}
 use Rattle.runs.proofs.Begins.{begun}
 use Rattle.runs.proofs.Events.{stepped}
 use Rattle.runs.proofs.Invariant.{limit, carried_after, sent_after, Good, Finished, Stepped, ended, going}
@@ -27,27 +27,27 @@ use Rattle.service.specs.declared.progress.Progress.{Progress}
 
 -- one byte more was sent, or not
 sizes : (b : Bool) (sent value : ℕ) (later : List ℕ) →
-    sent + length (if b then value ∷ later else later) ≡ elim b [ true ↦ suc sent | false ↦ sent ] + length later
-unfolding if◌then◌else◌
+    sent + length (when b then value ∷ later else later) ≡ elim b [ true ↦ suc sent | false ↦ sent ] + length later
+unfolding when◌then◌else◌
 sizes true sent value later = omega arith
 sizes false sent value later = refl
 
 -- one byte more was carried, or not
 carries_on : (b : Bool) (before : List ℕ) (argument : ℕ) (later : List ℕ) →
-    elim b [ true ↦ before ++ (argument ∷ []) | false ↦ before ] ++ later ≡ before ++ (if b then argument ∷ later else later)
-unfolding if◌then◌else◌
+    elim b [ true ↦ before ++ (argument ∷ []) | false ↦ before ] ++ later ≡ before ++ (when b then argument ∷ later else later)
+unfolding when◌then◌else◌
 carries_on true before argument later = append_snoc before argument later
 carries_on false before argument later = refl
 
 -- the first event 4 ends what counts as carried
 carried_stop : (event argument : ℕ) (rest : List ℕ) → eqb event 4 ≡ true → carried (event ∷ argument ∷ rest) ≡ []
 unfolding carried
-carried_stop event argument rest e = if-true _ _ _ e
+carried_stop event argument rest e = when-true _ _ _ e
 
 carried_on : (event argument : ℕ) (rest : List ℕ) → eqb event 4 ≡ false →
-    carried (event ∷ argument ∷ rest) ≡ (if eqb event 7 then argument ∷ carried rest else carried rest)
+    carried (event ∷ argument ∷ rest) ≡ (when eqb event 7 then argument ∷ carried rest else carried rest)
 unfolding carried
-carried_on event argument rest e = if-false _ _ _ e
+carried_on event argument rest e = when-false _ _ _ e
 
 -- What holds of a run from here on: so many bytes were sent and these carried before.
 pub record Facts (job : Job) (before : List ℕ) (sent : ℕ) (script : List ℕ) (r : Run) : Type 0 where
@@ -95,13 +95,13 @@ module _ (table : Table) {room places : ℕ} {job : Job} (payload : List ℕ) (f
   taken : (before : List ℕ) (sent event argument : ℕ) (rest : List ℕ) (value : ℕ) (q : Progress) →
       Stepped job payload before sent event argument q →
       ((before' : List ℕ) (sent' : ℕ) → Good job payload before' sent' q → Facts job before' sent' rest (run table q rest)) →
-      Facts job before sent (event ∷ argument ∷ rest) (sending event value (if q.over then closes q else run table q rest))
+      Facts job before sent (event ∷ argument ∷ rest) (sending event value (when q.over then closes q else run table q rest))
   taken before sent event argument rest value q (ended o c b) later =
-      subst (λ (r : Run). Facts job before sent (event ∷ argument ∷ rest) (sending event value r)) (sym (if-true q.over _ _ o))
+      subst (λ (r : Run). Facts job before sent (event ∷ argument ∷ rest) (sending event value r)) (sym (when-true q.over _ _ o))
       (over-facts job payload before sent event argument rest value q c b)
   taken before sent event argument rest value q (going k g) later =
       subst (λ (r : Run). Facts job before sent (event ∷ argument ∷ rest) (sending event value r))
-      (sym (if-false q.over _ _ g.whole.lasts)) (on-facts job before sent event argument rest value _ k (later _ _ g))
+      (sym (when-false q.over _ _ g.whole.lasts)) (on-facts job before sent event argument rest value _ k (later _ _ g))
 
   run-facts : (script : List ℕ) (before : List ℕ) (sent : ℕ) (p : Progress) → Good job payload before sent p →
       Facts job before sent script (run table p script)

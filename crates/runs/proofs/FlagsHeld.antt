@@ -30,8 +30,8 @@ use Rattle.driver.specs.Run.{taking}
 use Rattle.laws.proofs.Soundness.{event-stays-sound}
 use Rattle.laws.proofs.Status.{status-reads}
 use Rattle.notation.proofs.Among.{has, one_of, apart}
-use Rattle.notation.proofs.Cases.{if-false, and_left, split}
-use Rattle.notation.specs.Choice.{if◌then◌else◌, ◌and◌, ◌or◌, among}
+use Rattle.notation.proofs.Cases.{when-false, and_left, split}
+use Rattle.notation.specs.Choice.{when◌then◌else◌, ◌and◌, ◌or◌, among}
 use Rattle.runs.proofs.Accepted.{works}
 use Rattle.runs.proofs.ActsKeep.{AllWrite, data_writes, Kept, refused, accepted, chosen, not_this, act-keeps, follows-keeps}
 use Rattle.runs.proofs.Begins.{begins_to, ready-waits}
@@ -81,12 +81,12 @@ pub held-begun : (job : Job) (c : Controller) → sound c ≡ true → among (ki
 unfolding starts starting does_all does keeps flags_of
 held-begun job c s w z =
     let off = apart _ waiting_turns (stopping ∷ []) tt w in
-    held_by _ c.turn (keeps c.control (flags_of 0x60) c.turn) (ap parts_of (begins_to job c s w)) refl (sym w) (if-false _ _ _ off ∙ z ∙ sym off)
+    held_by _ c.turn (keeps c.control (flags_of 0x60) c.turn) (ap parts_of (begins_to job c s w)) refl (sym w) (when-false _ _ _ off ∙ z ∙ sym off)
 
 -- I2CCON written with ENSIO 1: where it is accepted it leads where the rules list it, and the flags are stored
 control_led : (c : Controller) (value : ℕ) (t : Turn) → (flags_of value).ensio ≡ true → response c.turn (flags_of value) ≡ Next t →
     (write_of c 3 value).refused ≡ 0 → parts_of (put c 3 value) ≡ (t, keeps c.control (flags_of value) t)
-unfolding put write_of write_sound indirect_at bars_write write_control write_flags enabled controlled wrote refuses accepts if◌then◌else◌ ◌and◌ ◌or◌
+unfolding put write_of write_sound indirect_at bars_write write_control write_flags enabled controlled wrote refuses accepts when◌then◌else◌ ◌and◌ ◌or◌
 control_led c value t e r =
     let k = flags_of value in
     let P : Outcome → Type 0 = λ o. o.refused ≡ 0 → parts_of o.next ≡ (t, keeps c.control k t) in
@@ -177,7 +177,7 @@ module _ {room places : ℕ} {job : Job} (payload : List ℕ) (form : Formed job
         responds_at k (edge_of next.turn) (flags_of value) ≡ Next t → (flags_of value).sta ≡ among (kind t) waiting_turns →
         (keeps next.control (flags_of value) t).sto ≡ among (kind t) (stopping ∷ []) → among (kind t) (stopping ∷ []) ≡ awaits_stop after →
         Holds (record { acts = acts ++ (writes 3 value ∷ []); after = after })
-    unfolding performs taking response keeps kind status_of edge_of among if◌then◌else◌
+    unfolding performs taking response keeps kind status_of edge_of among when◌then◌else◌
     leads acts value after t k e w n r sta sto b a o =
         let q = taking p next in
         let done = follows-keeps after (does_all (acts ++ (writes 3 value ∷ [])) q) in
@@ -187,7 +187,7 @@ module _ {room places : ℕ} {job : Job} (payload : List ℕ) (form : Formed job
 
     stops : (acts : List Act) (e : Ending) (k : ℕ) → status ≡ k → AllWrite (0 ∷ 1 ∷ []) acts →
         responds_at k (edge_of next.turn) (flags_of 0x50) ≡ Next turn.Stopping → Holds (stop_after acts e)
-    unfolding kind keeps flags_of among if◌then◌else◌
+    unfolding kind keeps flags_of among when◌then◌else◌
     stops acts ending k e w r = leads acts 0x50 (awaits ending) turn.Stopping k e w refl r refl refl refl
 
     over : (acts : List Act) (e : Ending) → Holds (end_after acts e)
@@ -195,7 +195,7 @@ module _ {room places : ℕ} {job : Job} (payload : List ℕ) (form : Formed job
     over acts e a o = absurd (true≢false o)
 
     all_hold : (count : ℕ) → Holds (job_table job payload status count)
-    unfolding kind keeps flags_of responds_at end_or among if◌then◌else◌ ◌or◌
+    unfolding kind keeps flags_of responds_at end_or among when◌then◌else◌ ◌or◌
     all_hold count =
         let lines = job_lines job payload in
         let xs = take job.n payload in
@@ -228,7 +228,7 @@ module _ {room places : ℕ} {job : Job} (payload : List ℕ) (form : Formed job
   pair_held =
       let e = status-reads next (event-stays-sound p.controller number argument g.whole.sound) in
       let P : Progress → Type 0 = λ q. q.over ≡ false → Held q in
-      let at-status : ℕ → Type 0 = λ s. P (if eqb s 0xF8 then taking p next else performs (job_table job payload s p.count) (taking p next)) in
+      let at-status : ℕ → Type 0 = λ s. P (when eqb s 0xF8 then taking p next else performs (job_table job payload s p.count) (taking p next)) in
       split P (eqb number 14) _ _ (λ _ o. absurd (true≢false o))
       (λ x. split P (eqb number 4) _ _ (λ _ o. absurd (true≢false o))
       (λ y. subst at-status (sym e) (split P (eqb status 0xF8) _ _ (λ f _. (idle-held x y f).0) (λ f o. (work-held p.count x f o).0))))

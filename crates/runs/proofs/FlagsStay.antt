@@ -20,7 +20,7 @@ use Rattle.controller.specs.Transfer.{address_status, data_out, byte_out, receiv
 use Rattle.controller.specs.declared.record.Controller.{Controller}
 use Rattle.notation.proofs.Among.{has, every, same, within, apart}
 use Rattle.notation.proofs.Cases.{split}
-use Rattle.notation.specs.Choice.{if◌then◌else◌, ◌or◌, among}
+use Rattle.notation.specs.Choice.{when◌then◌else◌, ◌or◌, among}
 use Rattle.runs.proofs.Invariant.{In, waiting_turns, job_turns, Good}
 use Rattle.runs.proofs.Step.{here, not_38h, no_match}
 use Rattle.runs.proofs.Waiting.{free-waits, busy-waits, listen-waits}
@@ -34,7 +34,7 @@ never k z = omega (arith, z)
 pub own_stop_lem : (c : Controller) (number argument : ℕ) → number ≡ 4 →
     let o = event_of c number argument in
     o.refused ≡ 0 → (among (kind c.turn) (stopping ∷ []) ≡ true) × (o.next.turn ≡ turn.Free) × (o.next.control ≡ without_stop c.control)
-unfolding event_of event_sound own_stop refuses waits_for accepts if◌then◌else◌ ◌or◌
+unfolding event_of event_sound own_stop refuses waits_for accepts when◌then◌else◌ ◌or◌
 own_stop_lem c number argument e =
     let stopping-now = among (kind c.turn) (stopping ∷ []) in
     let P : Outcome → Type 0 = λ o.
@@ -100,7 +100,7 @@ module _ {job : Job} {payload carried : List ℕ} {sent : ℕ} {p : Progress} (g
   no_38h o e = absurd (not_38h g e)
 
   -- a choice, and the status that the address byte gets
-  chosen : (b : Bool) (x y : Outcome) → (b ≡ true → Stays x) → (b ≡ false → Stays y) → Stays (if b then x else y)
+  chosen : (b : Bool) (x y : Outcome) → (b ≡ true → Stays x) → (b ≡ false → Stays y) → Stays (when b then x else y)
   chosen b x y f h = split Stays b x y f h
 
   answered : (d : Direction) (nack : ℕ) → eqb (address_status d nack) 0xF8 ≡ false

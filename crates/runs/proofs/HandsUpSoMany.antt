@@ -10,8 +10,8 @@ use lib.Seq.{length-take-le}
 use Rattle.address.specs.Number.{bit_of}
 use Rattle.controller.specs.declared.record.Controller.{Controller}
 use Rattle.driver.specs.Run.{Report, run, hands_up, reports, declines, job_of}
-use Rattle.notation.proofs.Cases.{if-true, if-false, and_no_left, and_left, and_right, split}
-use Rattle.notation.specs.Choice.{if◌then◌else◌, ◌and◌}
+use Rattle.notation.proofs.Cases.{when-true, when-false, and_no_left, and_left, and_right, split}
+use Rattle.notation.specs.Choice.{when◌then◌else◌, ◌and◌}
 use Rattle.runs.proofs.Facts.{facts}
 use Rattle.runs.proofs.Fits.{read-bit}
 use Rattle.runs.specs.OneRun.{handed_count, HandsUpSoMany}
@@ -28,7 +28,7 @@ module _ (job : Job) (payload : List ℕ) (room places : ℕ) (script : List ℕ
 
   declined : (answer : ℕ) → eqb answer 0 ≡ false → SoMany (declines c answer)
   unfolding declines handed_count
-  declined answer e = sym (if-false _ job.n 0 (and_no_left _ _ e))
+  declined answer e = sym (when-false _ job.n 0 (and_no_left _ _ e))
 
   worked : malformed job (length payload) room places (length script) ≡ false → ready c ≡ true →
       SoMany (reports job (run (job_table job payload) (starts (begins job) c) script))
@@ -38,11 +38,11 @@ module _ (job : Job) (payload : List ℕ) (room places : ℕ) (script : List ℕ
       let n = (formed job (length payload) room places (length script) m).high in
       let f = facts job payload script room places c m r l in
       let test = eqb whole.result.answer 0 and eqb (bit_of job.direction) 1 in
-      split (λ (k : ℕ). length (if test then take job.n whole.fetched else []) ≡ k) test job.n 0
+      split (λ (k : ℕ). length (when test then take job.n whole.fetched else []) ≡ k) test job.n 0
       (λ e. let all = (f.carry (eqb-true _ _ (and_left _ _ e)) (read-bit job.direction (and_right _ _ e))).1 in
-      ap (λ (xs : List ℕ). length xs) (if-true _ _ _ e)
+      ap (λ (xs : List ℕ). length xs) (when-true _ _ _ e)
       ∙ length-take-le job.n whole.fetched (subst (λ (k : ℕ). job.n ≤ k) (sym all) n))
-      (λ e. ap (λ (xs : List ℕ). length xs) (if-false _ (take job.n whole.fetched) [] e))
+      (λ e. ap (λ (xs : List ℕ). length xs) (when-false _ (take job.n whole.fetched) [] e))
 
 pub hands_up_so_many : HandsUpSoMany
 unfolding job_of

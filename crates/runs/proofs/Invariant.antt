@@ -17,7 +17,7 @@ use Rattle.controller.proofs.SoundParts.{parts}
 use Rattle.controller.specs.Record.{place, byte_count, sound, move_sound}
 use Rattle.controller.specs.declared.record.Controller.{Controller}
 use Rattle.notation.proofs.Among.{within, clash}
-use Rattle.notation.proofs.Cases.{if-true, and_left}
+use Rattle.notation.proofs.Cases.{when-true, and_left}
 use Rattle.notation.specs.Choice.{◌and◌, among}
 use Rattle.service.specs.JobSteps.{count_of}
 use Rattle.service.specs.declared.job.Job.{Job}
@@ -76,8 +76,8 @@ pub below-count : (c : Controller) → sound c ≡ true → among (kind c.turn) 
     c.moved < byte_count c
 unfolding move_sound
 below-count c s t m =
-    let move = sym (if-true (among (kind c.turn) data_turns) _ _ t) ∙ (parts c s).move in
-    ltb-true c.moved (byte_count c) (and_left _ _ (sym (if-true c.control.mode _ _ m) ∙ move))
+    let move = sym (when-true (among (kind c.turn) data_turns) _ _ t) ∙ (parts c s).move in
+    ltb-true c.moved (byte_count c) (and_left _ _ (sym (when-true c.control.mode _ _ m) ∙ move))
 
 module _ (job : Job) (payload : List ℕ) where
   -- the record and the notes while the job lasts, in whatever turn

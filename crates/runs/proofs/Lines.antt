@@ -10,7 +10,7 @@ use Rattle.answer.specs.declared.ending.Ending.{Ending}
 use Rattle.block.specs.Block.{written}
 use Rattle.controller.specs.Access.{read_of}
 use Rattle.controller.specs.declared.record.Controller.{Controller}
-use Rattle.notation.specs.Choice.{if◌then◌else◌, among}
+use Rattle.notation.specs.Choice.{when◌then◌else◌, among}
 use Rattle.service.proofs.Blocks.{load_block}
 use Rattle.service.specs.Act.{writes, reads_all, counts, Work, put, reads, fetch, read_times, does, does_all, follows, performs}
 use Rattle.service.specs.JobSteps.{finds_moved, go_on_after, stop_after, end_after}
@@ -69,7 +69,7 @@ pub record JobLines (table : Table) (job : Job) (payload : List ℕ) : Type 0 wh
   pub at_78 : Line table 0x78 fault_work
 
 pub job_lines : (job : Job) (payload : List ℕ) → JobLines (job_table job payload) job payload
-unfolding job_table among if◌then◌else◌
+unfolding job_table among when◌then◌else◌
 job_lines job payload = record {
   at_08 = λ _. refl;
   at_18 = λ _. refl;

@@ -21,7 +21,7 @@ use Rattle.laws.proofs.Soundness.{event-stays-sound}
 use Rattle.laws.proofs.Status.{status-reads}
 use Rattle.laws.proofs.Status38h.{status_38h_stays}
 use Rattle.notation.proofs.Cases.{and_left, split}
-use Rattle.notation.specs.Choice.{if◌then◌else◌}
+use Rattle.notation.specs.Choice.{when◌then◌else◌}
 use Rattle.runs.specs.OneRun.{HeldAt38h, LostHeld}
 use Rattle.service.proofs.AnyTable.{acts_leave}
 use Rattle.service.proofs.Sound.{KeepsSound, acts-sound, performs-sound}
@@ -71,7 +71,7 @@ module _ (job : Job) (payload : List ℕ) (p : Progress) (n : Not25 p) (s : Keep
   unfolding performs does_all does follows
   loses l = record { lost = λ e. (refl, put_40 p.controller s l) }
 
-  chosen : (b : Bool) (x y : Work) → (b ≡ true → Fair (performs x p)) → (b ≡ false → Fair (performs y p)) → Fair (performs (if b then x else y) p)
+  chosen : (b : Bool) (x y : Work) → (b ≡ true → Fair (performs x p)) → (b ≡ false → Fair (performs y p)) → Fair (performs (when b then x else y) p)
   chosen b x y f g = split (λ w. Fair (performs w p)) b x y f g
 
   works : (count : ℕ) → Fair (performs (job_table job payload (status_of p.controller.turn) count) p)

@@ -10,7 +10,7 @@ use Rattle.controller.specs.Event.{event_of}
 use Rattle.controller.specs.declared.record.Controller.{Controller}
 use Rattle.driver.specs.Run.{Report, Run, closes, breaks, sending, taking, run, reports, declines, job_of}
 use Rattle.notation.proofs.Cases.{split}
-use Rattle.notation.specs.Choice.{if◌then◌else◌}
+use Rattle.notation.specs.Choice.{when◌then◌else◌}
 use Rattle.runs.specs.OneRun.{sent_count, OneByteEach}
 use Rattle.service.proofs.AnyTable.{serve-events}
 use Rattle.service.specs.Act.{Act, does, does_all}
@@ -36,8 +36,8 @@ unfolding closes sent_count
 closed p script = record { used = 0; events = omega arith; sent = refl }
 
 one_byte : (event value : ℕ) (rest bytes : List ℕ) (k : ℕ) → length bytes ≡ sent_count k rest → (b : Bool) →
-    length (if b then value ∷ bytes else bytes) ≡ (if b then sent_count k rest + 1 else sent_count k rest)
-unfolding if◌then◌else◌
+    length (when b then value ∷ bytes else bytes) ≡ (when b then sent_count k rest + 1 else sent_count k rest)
+unfolding when◌then◌else◌
 one_byte event value rest bytes k e true = omega (arith, e)
 one_byte event value rest bytes k e false = e
 

@@ -20,8 +20,8 @@ use Rattle.controller.specs.declared.record.Controller.{Controller}
 use Rattle.driver.specs.Run.{Report, Run, closes, breaks, sending, taking, run, reports, job_of}
 use Rattle.laws.proofs.Soundness.{event-stays-sound}
 use Rattle.notation.proofs.Among.{has}
-use Rattle.notation.proofs.Cases.{if-true, if-false, split}
-use Rattle.notation.specs.Choice.{if◌then◌else◌}
+use Rattle.notation.proofs.Cases.{when-true, when-false, split}
+use Rattle.notation.specs.Choice.{when◌then◌else◌}
 use Rattle.runs.proofs.ActsKeep.{AllWrite, both-write, data_writes, Kept, refused, accepted, chosen, not_this, acts-keep, follows-keeps}
 use Rattle.runs.proofs.Begins.{begun, first-pointer}
 use Rattle.runs.proofs.ComesFrom.{event-comes}
@@ -79,7 +79,7 @@ module _ (job : Job) (payload : List ℕ) where
     unfolding job_table
     works status count =
         let xs = take job.n payload in
-        let chosen : (b : Bool) (x y : Work) → Back x → Back y → Back (if b then x else y) = λ b x y f g. split Back b x y (λ _. f) (λ _. g) in
+        let chosen : (b : Bool) (x y : Work) → Back x → Back y → Back (when b then x else y) = λ b x y f g. split Back b x y (λ _. f) (λ _. g) in
         chosen _ _ _ (stays _ (tt, (tt, tt)))
         (chosen _ _ _ (stays _ (both-write (1 ∷ 3 ∷ []) (map (writes 1) xs) (writes 3 0x41 ∷ []) (data_writes (1 ∷ 3 ∷ []) xs tt) (tt, tt)))
         (chosen _ _ _ (stays _ (tt, tt))
@@ -119,4 +119,4 @@ unfolding job_of reports
 leaves-pointer job payload room places script c m r l =
     let form = formed job (length payload) room places (length script) m in
     let run-back = run-leaves payload form script (begun job payload c r l) (first-pointer job c r) in
-    subst (λ (x : Report). x.result.next.pointer ≡ 0) (sym (if-false _ _ _ m ∙ if-true _ _ _ r)) run-back
+    subst (λ (x : Report). x.result.next.pointer ≡ 0) (sym (when-false _ _ _ m ∙ when-true _ _ _ r)) run-back

@@ -25,8 +25,8 @@ use Rattle.laws.proofs.Reasons.{reasons_follow}
 use Rattle.laws.proofs.Soundness.{event-stays-sound}
 use Rattle.laws.proofs.Status.{status-reads}
 use Rattle.notation.proofs.Among.{has, among-has, one_of, apart}
-use Rattle.notation.proofs.Cases.{if-true, if-false, and_no_left, split}
-use Rattle.notation.specs.Choice.{if◌then◌else◌, ◌and◌, ◌or◌, among}
+use Rattle.notation.proofs.Cases.{when-true, when-false, and_no_left, split}
+use Rattle.notation.specs.Choice.{when◌then◌else◌, ◌and◌, ◌or◌, among}
 use Rattle.runs.proofs.ActsKeep.{fetch-keeps}
 use Rattle.runs.proofs.Begins.{begun}
 use Rattle.runs.proofs.ComesFrom.{turns_before, event-comes}
@@ -46,7 +46,7 @@ use Rattle.service.specs.declared.progress.Progress.{Progress}
 
 -- The reason is kept by own STOP, and by a write of another register than 2.
 stop_keeps : (c : Controller) (argument : ℕ) → (event_of c 4 argument).next.reason ≡ c.reason
-unfolding event_of event_sound own_stop refuses waits_for accepts if◌then◌else◌ ◌or◌
+unfolding event_of event_sound own_stop refuses waits_for accepts when◌then◌else◌ ◌or◌
 stop_keeps c argument =
     let P : Outcome → Type 0 = λ o. o.next.reason ≡ c.reason in
     split P (bad_argument 4 argument) _ _ (λ _. refl)
@@ -55,7 +55,7 @@ stop_keeps c argument =
 put_keeps : (c : Controller) (register value : ℕ) → eqb register 2 ≡ false → (put c register value).reason ≡ c.reason
 unfolding put indirect_at
 put_keeps c k value e =
-    (reasons_follow c).write k value ∙ split (λ r. r ≡ c.reason) _ _ _ (λ _. refl) (λ _. if-false _ _ _ (and_no_left _ _ (and_no_left _ _ e)))
+    (reasons_follow c).write k value ∙ split (λ r. r ≡ c.reason) _ _ _ (λ _. refl) (λ _. when-false _ _ _ (and_no_left _ _ (and_no_left _ _ e)))
 
 -- where a byte was sent, or is sent now
 sent-some : (b : Bool) (sent : ℕ) → (b ≡ false → sent ≡ 0 → ⊥) → ◌≡◌ {A = ℕ} (elim b [ true ↦ suc sent | false ↦ sent ]) 0 → ⊥
@@ -94,8 +94,8 @@ module _ {job : Job} {payload carried : List ℕ} {sent : ℕ} {p : Progress} (g
   ends q o r = record { noted = λ _ e. (λ l. absurd (true≢false (sym o ∙ l)), r e) }
 
   -- what the event makes of the reason
-  reason : next.reason ≡ (if eqb number 14 then Reset else if interrupts next then reason_of (status_of next.turn) else p.controller.reason)
-  reason = (reasons_follow p.controller).event number argument ∙ if-false _ _ _ (ap (ltb 0) accepted)
+  reason : next.reason ≡ (when eqb number 14 then Reset else when interrupts next then reason_of (status_of next.turn) else p.controller.reason)
+  reason = (reasons_follow p.controller).event number argument ∙ when-false _ _ _ (ap (ltb 0) accepted)
 
   -- a status is given
   module _ (x : eqb number 14 ≡ false) (f : eqb (status_of next.turn) 0xF8 ≡ false) where
@@ -104,12 +104,12 @@ module _ {job : Job} {payload carried : List ℕ} {sent : ℕ} {p : Progress} (g
 
     at : (k : ℕ) → status_of next.turn ≡ k → In p (turns_before k) × (next.reason ≡ reason_of k)
     at k e =
-        let given = reason ∙ if-false _ _ _ x ∙ split (λ r. r ≡ reason_of (status_of next.turn)) _ _ _ (λ _. refl) (λ i. absurd (in_host i)) in
+        let given = reason ∙ when-false _ _ _ x ∙ split (λ r. r ≡ reason_of (status_of next.turn)) _ _ _ (λ _. refl) (λ i. absurd (in_host i)) in
         subst (λ (k : ℕ). In p (turns_before k) × (next.reason ≡ reason_of k)) e ((event-comes g number argument).turn, given)
 
     -- the work, line by line of the table
     works : (count : ℕ) → NotedAfter (performs (job_table job payload (status_of next.turn) count) (taking p next))
-    unfolding job_table performs does_all does follows taking reason_of reason_left among if◌then◌else◌
+    unfolding job_table performs does_all does follows taking reason_of reason_left among when◌then◌else◌
     works count =
         let s = status_of next.turn in
         let P : Work → Type 0 = λ w. NotedAfter (performs w (taking p next)) in
@@ -133,16 +133,16 @@ module _ {job : Job} {payload carried : List ℕ} {sent : ℕ} {p : Progress} (g
 
   -- after a pair
   serves : NotedAfter (serve (job_table job payload) number (taking p next))
-  unfolding serve follows reads taking reason_left among if◌then◌else◌
+  unfolding serve follows reads taking reason_left among when◌then◌else◌
   serves =
       let e = status-reads next (event-stays-sound p.controller number argument g.whole.sound) in
-      split NotedAfter (eqb number 14) _ _ (λ x. ends _ refl (λ _. reason ∙ if-true _ _ _ x))
+      split NotedAfter (eqb number 14) _ _ (λ x. ends _ refl (λ _. reason ∙ when-true _ _ _ x))
       (λ x. split NotedAfter (eqb number 4) _ _ (λ y. ends _ refl (λ e.
       ap (λ (k : ℕ). (event_of p.controller k argument).next.reason) (eqb-true number 4 y) ∙ stop_keeps p.controller argument ∙ (n e).1))
       (λ _. split NotedAfter (eqb (reads next 0) 0xF8) _ _
       (λ _. record {
         noted = λ h e. let quiet = apart (kind next.turn) job_turns (host ∷ []) tt (h g.whole.lasts) in
-            (λ _. sent-some (eqb number 6) sent (λ _. (n e).0), reason ∙ if-false _ _ _ x ∙ if-false (interrupts next) _ _ quiet ∙ (n e).1);
+            (λ _. sent-some (eqb number 6) sent (λ _. (n e).0), reason ∙ when-false _ _ _ x ∙ when-false (interrupts next) _ _ quiet ∙ (n e).1);
       })
       (λ f. subst (λ (status : ℕ). NotedAfter (performs (job_table job payload status p.count) (taking p next))) (sym e)
       (works x (ap (λ (status : ℕ). eqb status 0xF8) (sym e) ∙ f) p.count))))

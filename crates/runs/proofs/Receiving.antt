@@ -19,8 +19,8 @@ use Rattle.controller.specs.Transfer.{cursor, is_last, acknowledges_last, receiv
 use Rattle.controller.specs.declared.record.Registers.{Registers}
 use Rattle.driver.specs.Run.{taking}
 use Rattle.notation.proofs.Among.{within, apart}
-use Rattle.notation.proofs.Cases.{if-true, if-false, split}
-use Rattle.notation.specs.Choice.{if◌then◌else◌, among}
+use Rattle.notation.proofs.Cases.{when-true, when-false, split}
+use Rattle.notation.specs.Choice.{when◌then◌else◌, among}
 use Rattle.runs.proofs.DataMoves.{fetch-all, retake}
 use Rattle.runs.proofs.Invariant.{In, count_top, below-count, Good, Stepped, going, good-receiving}
 use Rattle.runs.proofs.Lines.{Line, received_work, read_back, reads-and-stops}
@@ -39,7 +39,7 @@ module _ {job : Job} {payload carried : List ℕ} {sent : ℕ} {p : Progress} (g
   pub nacks_last : acknowledges_last p.controller ≡ false
   unfolding acknowledges_last
   nacks_last =
-      if-true p.controller.control.mode _ _ (g.receiving t).0 ∙ ap (λ (x : ℕ). not (eqb (x / 128) 1)) g.whole.count ∙
+      when-true p.controller.control.mode _ _ (g.receiving t).0 ∙ ap (λ (x : ℕ). not (eqb (x / 128) 1)) g.whole.count ∙
       ap not (count_top job.direction job.n (g.receiving t).1)
 
 module _ {room places : ℕ} {job : Job} (payload : List ℕ) (form : Formed job (length payload) room places)
@@ -58,7 +58,7 @@ module _ {room places : ℕ} {job : Job} (payload : List ℕ) (form : Formed job
       let b = below in
       let h = form.high in
       let l = g.whole.places in
-      ap (λ (k : ℕ). take (c.moved + 1) (set c.buffer k argument)) (if-true c.control.mode c.moved 0 (g.receiving t).0) ∙
+      ap (λ (k : ℕ). take (c.moved + 1) (set c.buffer k argument)) (when-true c.control.mode c.moved 0 (g.receiving t).0) ∙
       retake (set c.buffer c.moved argument) (c.moved + 1) (suc c.moved) (omega arith) ∙
       take-suc-set c.buffer c.moved argument (omega (arith, b, h, l)) ∙ ap (λ (m : List ℕ). m ++ (argument ∷ [])) (g.receiving t).2
 
@@ -70,13 +70,13 @@ module _ {room places : ℕ} {job : Job} (payload : List ℕ) (form : Formed job
   all_moved : is_last p.controller ≡ true → p.controller.moved + 1 ≡ job.n
   unfolding is_last
   all_moved e =
-      eqb-true (p.controller.moved + 1) (byte_count p.controller) (sym (if-true p.controller.control.mode _ _ (g.receiving t).0) ∙ e)
+      eqb-true (p.controller.moved + 1) (byte_count p.controller) (sym (when-true p.controller.control.mode _ _ (g.receiving t).0) ∙ e)
       ∙ byte-count payload form g
 
   -- n bytes are read back, since n is at most 68
   all_read : read_times job.n ≡ job.n
   unfolding read_times
-  all_read = if-false _ _ _ (le-ltb 68 job.n form.high)
+  all_read = when-false _ _ _ (le-ltb 68 job.n form.high)
 
 module _ (table : Table) {room places : ℕ} {job : Job} (payload : List ℕ) (form : Formed job (length payload) room places)
     {carried : List ℕ} {sent : ℕ} {p : Progress} (g : Good job payload carried sent p) where
@@ -98,7 +98,7 @@ module _ (table : Table) {room places : ℕ} {job : Job} (payload : List ℕ) (f
     -- 58h: the bytes are read back, and the driver waits for own STOP
     data_last : Line table 0x58 (received_work job.n) → (argument : ℕ) → is_last p.controller ≡ true →
         S 7 argument (gives (received p.controller argument) 0x58 1)
-    unfolding taking received responds_at end_or among kind flags_of if◌then◌else◌
+    unfolding taking received responds_at end_or among kind flags_of when◌then◌else◌
     data_last line argument e =
         hosting table g 7 argument (received p.controller argument) 0x58 1 line refl refl refl
         (λ s. let h = hosted (received p.controller argument) 0x58 in

@@ -27,7 +27,7 @@ use Rattle.driver.specs.Run.{taking}
 use Rattle.laws.proofs.Addresses.{direction-back}
 use Rattle.notation.proofs.Among.{within, apart}
 use Rattle.notation.proofs.Cases.{split}
-use Rattle.notation.specs.Choice.{if◌then◌else◌, among}
+use Rattle.notation.specs.Choice.{when◌then◌else◌, among}
 use Rattle.service.proofs.AccessesLeave.{pointer-written, count-read}
 use Rattle.service.proofs.Sound.{put-sound}
 use Rattle.runs.proofs.Invariant.{In, early_turns, write_no_read, count-below, limit, limit-low, below-count, Whole, Good, Stepped, going, good-sending}
@@ -139,7 +139,7 @@ module _ (table : Table) {room places : ℕ} {job : Job} (payload : List ℕ) (f
     -- the address byte out
     pub address_out : (argument value : ℕ) → In p (address ∷ []) → (d : Direction) → job.direction ≡ d →
         S 6 argument (gives p.controller (address_status d argument) value)
-    unfolding address_status responds_at end_or among flags_of if◌then◌else◌
+    unfolding address_status responds_at end_or among flags_of when◌then◌else◌
     address_out argument value t Write d =
         split (λ (x : ℕ). S 6 argument (gives p.controller x value)) (eqb argument 1) 0x20 0x18
         (λ _. nacked argument 0x20 value at_20 refl t refl refl) (λ _. acked_write at_18 argument value t d)
@@ -150,7 +150,7 @@ module _ (table : Table) {room places : ℕ} {job : Job} (payload : List ℕ) (f
   module _ (t : In p (send ∷ [])) where
     -- 30h: a data byte was not acknowledged
     data_nacked : Line table 0x30 data_nacked_work → (argument value : ℕ) → S 6 argument (gives (counted p.controller) 0x30 value)
-    unfolding taking responds_at end_or among flags_of if◌then◌else◌
+    unfolding taking responds_at end_or among flags_of when◌then◌else◌
     data_nacked line argument value =
         hosting table g 6 argument (counted p.controller) 0x30 value line refl refl refl
         (λ s. let h = hosted (counted p.controller) 0x30 in
@@ -173,7 +173,7 @@ module _ (table : Table) {room places : ℕ} {job : Job} (payload : List ℕ) (f
 
     -- 28h: the last was
     data_done : Line table 0x28 (sent_work job.n) → (argument value : ℕ) → S 6 argument (gives (counted p.controller) 0x28 value)
-    unfolding taking responds_at end_or among flags_of if◌then◌else◌
+    unfolding taking responds_at end_or among flags_of when◌then◌else◌
     data_done line argument value =
         hosting table g 6 argument (counted p.controller) 0x28 value line refl refl refl
         (λ s. let q = taking p (hosted (counted p.controller) 0x28) in

@@ -25,7 +25,7 @@ use Rattle.controller.specs.declared.record.Controller.{Controller}
 use Rattle.controller.specs.declared.record.Registers.{Registers}
 use Rattle.notation.proofs.Among.{among-has}
 use Rattle.notation.proofs.Cases.{and_no_right, or-false}
-use Rattle.notation.specs.Choice.{if◌then◌else◌, ◌and◌, ◌or◌, among}
+use Rattle.notation.specs.Choice.{when◌then◌else◌, ◌and◌, ◌or◌, among}
 use Rattle.service.proofs.AccessesLeave.{control-written}
 use Rattle.runs.proofs.DataMoves.{load_all, retake}
 use Rattle.service.proofs.Sound.{put-sound}
@@ -43,7 +43,7 @@ pub stops-good : {job : Job} {payload : List ℕ} (carried : List ℕ) (sent : �
     Whole job payload q → q.controller.turn ≡ turn.Host status Stop → among status faults ≡ false →
     responds_at status Stop (flags_of 0x50) ≡ Next turn.Stopping → sent ≤ limit job.direction job.n →
     (number_of e ≡ 0 → job.direction ≡ Read → take job.n q.fetched ≡ carried) → Good job payload carried sent (stopped q e count)
-unfolding kind status_of edge_of among response flags_of keeps bad_count if◌then◌else◌ ◌and◌
+unfolding kind status_of edge_of among response flags_of keeps bad_count when◌then◌else◌ ◌and◌
 stops-good {job} {payload} carried sent q status e count w t l r m z =
     let h = q.controller in
     let eq = control-written h 0x50 (turn.Host status Stop) turn.Stopping w.sound t refl l refl r refl in
@@ -67,7 +67,7 @@ module _ {room places : ℕ} {job : Job} (payload : List ℕ) (form : Formed job
   pub sends-good : (carried : List ℕ) (q : Progress) → Whole job payload q → job.direction ≡ Write →
       q.controller.turn ≡ turn.Host 0x18 Stop → q.controller.hand ≡ 0 →
       Good job payload carried 1 (with_record q (put (written (take job.n payload) q.controller) 3 0x41))
-  unfolding kind status_of edge_of among response responds_at end_or flags_of keeps if◌then◌else◌ ◌and◌
+  unfolding kind status_of edge_of among response responds_at end_or flags_of keeps when◌then◌else◌ ◌and◌
   sends-good carried q w d t z =
       let xs = take job.n payload in
       let h = q.controller in
@@ -88,7 +88,7 @@ module _ {room places : ℕ} {job : Job} (payload : List ℕ) (form : Formed job
   -- 40h: the driver waits in Receive
   pub receives-good : (q : Progress) → Whole job payload q → job.direction ≡ Read → q.controller.turn ≡ turn.Host 0x40 Stop →
       Good job payload [] 1 (with_record q (put q.controller 3 0x41))
-  unfolding kind status_of edge_of among response responds_at flags_of keeps if◌then◌else◌ ◌and◌ ◌or◌
+  unfolding kind status_of edge_of among response responds_at flags_of keeps when◌then◌else◌ ◌and◌ ◌or◌
   receives-good q w d t =
       let h = q.controller in
       let eq = control-written h 0x41 (turn.Host 0x40 Stop) turn.Receive w.sound t refl refl refl refl (fair_count h _ _ w.count) in

@@ -25,7 +25,7 @@ use Rattle.controller.specs.declared.record.Controller.{Controller}
 use Rattle.driver.specs.Run.{taking}
 use Rattle.notation.proofs.Among.{among-has, within, apart}
 use Rattle.notation.proofs.Cases.{and_left, and_right, split}
-use Rattle.notation.specs.Choice.{if◌then◌else◌, ◌and◌, among}
+use Rattle.notation.specs.Choice.{when◌then◌else◌, ◌and◌, among}
 use Rattle.service.proofs.AccessesLeave.{controlled_to, control-written, data_written, data_written_lem}
 use Rattle.service.proofs.Sound.{put-sound}
 use Rattle.runs.proofs.Ends.{at-fault}
@@ -56,7 +56,7 @@ module _ (byte : ℕ) (h : Controller) (s : sound h ≡ true) where
   addressing = put (put h 1 byte) 3 0x40
 
   addresses_to : h.turn ≡ turn.Host 0x08 Stop → h.hand ≡ 0 → addressing ≡ controlled_to (data_written h byte) (flags_of 0x40) turn.Address
-  unfolding kind status_of among response responds_at flags_of bad_count if◌then◌else◌ ◌and◌
+  unfolding kind status_of among response responds_at flags_of bad_count when◌then◌else◌ ◌and◌
   addresses_to t z =
       let e = data_written_lem h byte s (ap (λ (u : Turn). among (kind u) wire_turns) t) (omega (arith, z)) in
       let still = subst (λ d. sound d ≡ true) e (put-sound h 1 byte s) in
@@ -129,7 +129,7 @@ module _ (table : Table) {job : Job} {payload carried : List ℕ} {sent : ℕ} {
   module _ (line : Line table 0x08 (address_work (byte_of job.address job.direction).0)) where
     started : (number argument : ℕ) → eqb number 14 ≡ false → eqb number 4 ≡ false → eqb number 7 ≡ false → eqb number 6 ≡ false →
         In p waiting_turns → S number argument (gives p.controller 0x08 0)
-    unfolding taking kind keeps flags_of if◌then◌else◌
+    unfolding taking kind keeps flags_of when◌then◌else◌
     started number argument h k m n w =
         hosting table g number argument p.controller 0x08 0 line refl h k
         (λ s. let c = hosted p.controller 0x08 in

@@ -6,7 +6,7 @@ use Rattle.controller.specs.Access.{read_of, write_of}
 use Rattle.controller.specs.Event.{event_of}
 use Rattle.controller.specs.declared.record.Controller.{Controller}
 use Rattle.driver.specs.Run.{taking}
-use Rattle.notation.specs.Choice.{if◌then◌else◌, among}
+use Rattle.notation.specs.Choice.{when◌then◌else◌, among}
 use Rattle.service.specs.Act.{Act, writes, reads_data, reads_all, reads_count, counts, reads, read_times, does}
 use Rattle.service.specs.JobSteps.{begins}
 use Rattle.service.specs.JobTable.{job_table}
@@ -67,8 +67,8 @@ job_statuses = 0x08 ∷ 0x18 ∷ 0x40 ∷ 0x20 ∷ 0x28 ∷ 0x30 ∷ 0x48 ∷ 0x
 -- what the driver reads in register 0 after an accepted pair, if it is not F8h
 unfoldable pub status_seen : ℕ → Progress → List ℕ
 status_seen event p =
-    if among event last_events then []
-    else if eqb (reads p.controller 0) 0xF8 then []
+    when among event last_events then []
+    else when eqb (reads p.controller 0) 0xF8 then []
     else reads p.controller 0 ∷ []
 
 -- the statuses that a run over a script meets, in order
@@ -78,8 +78,8 @@ met table p (event ∷ []) = []
 met table p (event ∷ argument ∷ rest) =
     let o = event_of p.controller event argument in
     let q = serve table event (taking p o.next) in
-    if eqb o.refused 0
-    then status_seen event (taking p o.next) ++ (if q.over then [] else met table q rest)
+    when eqb o.refused 0
+    then status_seen event (taking p o.next) ++ (when q.over then [] else met table q rest)
     else []
 
 -- each of these numbers is one of those

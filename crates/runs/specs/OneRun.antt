@@ -7,7 +7,7 @@ use Rattle.address.specs.Number.{bit_of}
 use Rattle.control.specs.Turn.{at38h}
 use Rattle.controller.specs.declared.record.Controller.{Controller}
 use Rattle.driver.specs.Run.{Report, declines, job_of}
-use Rattle.notation.specs.Choice.{if◌then◌else◌, ◌and◌}
+use Rattle.notation.specs.Choice.{when◌then◌else◌, ◌and◌}
 use Rattle.service.specs.Request.{malformed, ready}
 use Rattle.service.specs.declared.job.Job.{Job}
 
@@ -27,7 +27,7 @@ unfoldable pub sent_count : ℕ → List ℕ → ℕ
 sent_count zero script = 0
 sent_count (suc events) [] = 0
 sent_count (suc events) (event ∷ []) = 0
-sent_count (suc events) (event ∷ argument ∷ rest) = if eqb event 6 then sent_count events rest + 1 else sent_count events rest
+sent_count (suc events) (event ∷ argument ∷ rest) = when eqb event 6 then sent_count events rest + 1 else sent_count events rest
 
 -- "the bytes sent, one for each accepted event 6"
 abbrev pub OneByteEach : Type 0
@@ -36,7 +36,7 @@ OneByteEach = (job : Job) (payload : List ℕ) (destination_length out_length : 
 
 -- "Handed up are the destination's first n bytes for answer 0 of a read, else none": so many (R is 1 for a read)
 unfoldable pub handed_count : Job → ℕ → ℕ
-handed_count job answer = if eqb answer 0 and eqb (bit_of job.direction) 1 then job.n else 0
+handed_count job answer = when eqb answer 0 and eqb (bit_of job.direction) 1 then job.n else 0
 
 abbrev pub HandsUpSoMany : Type 0
 HandsUpSoMany = (job : Job) (payload : List ℕ) (destination_length out_length : ℕ) (script : List ℕ) (c : Controller) →
@@ -70,11 +70,11 @@ abbrev pub NoneBegins : Type 0
 NoneBegins = (job : Job) (payload : List ℕ) (destination_length out_length : ℕ) (script : List ℕ) (c : Controller) →
     at38h c.turn ≡ true →
     job_of job payload destination_length out_length script c ≡
-    (if malformed job (length payload) destination_length out_length (length script) then declines c 21 else declines c 22)
+    (when malformed job (length payload) destination_length out_length (length script) then declines c 21 else declines c 22)
 
 -- "What the bus carried in it are the arguments of the event 7 pairs before its script's first event 4, .. in script order."
 unfoldable pub carried : List ℕ → List ℕ
 carried [] = []
 carried (event ∷ []) = []
 carried (event ∷ argument ∷ rest) =
-    if eqb event 4 then [] else if eqb event 7 then argument ∷ carried rest else carried rest
+    when eqb event 4 then [] else when eqb event 7 then argument ∷ carried rest else carried rest

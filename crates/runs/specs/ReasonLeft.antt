@@ -7,7 +7,7 @@ use Rattle.control.specs.declared.reason.Reason.TheVariants.{CountReached, Nack,
 use Rattle.control.specs.declared.reason.Reason.{Reason}
 use Rattle.controller.specs.declared.record.Controller.{Controller}
 use Rattle.driver.specs.Run.{job_of}
-use Rattle.notation.specs.Choice.{if◌then◌else◌, among}
+use Rattle.notation.specs.Choice.{when◌then◌else◌, among}
 use Rattle.service.specs.declared.job.Job.{Job}
 
 -- The answers of a job that came to its end. (21 and 22 "leave everything as it was", by `declines` in crates/driver. 27 and 28 can come anywhere in a
@@ -23,10 +23,10 @@ reason_done Read = Nack
 -- 23, "address NACKed (20h, 48h)"; 24, "30h"; 25, "38h"; 26, "00h, 70h, 78h"; 29, "event 14 came", and of no other answer is this claimed
 unfoldable pub reason_left : Direction → ℕ → Reason
 reason_left direction answer =
-    if eqb answer 0 then reason_done direction
-    else if among answer (23 ∷ 24 ∷ []) then Nack
-    else if eqb answer 25 then ArbitrationLost
-    else if eqb answer 26 then Fault
+    when eqb answer 0 then reason_done direction
+    else when among answer (23 ∷ 24 ∷ []) then Nack
+    else when eqb answer 25 then ArbitrationLost
+    else when eqb answer 26 then Fault
     else Reset
 
 -- every job with such an answer, whatever the script and the record (its buffer is a list here, so that it has 68 places is said)

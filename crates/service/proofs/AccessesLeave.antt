@@ -19,7 +19,7 @@ use Rattle.controller.specs.Registers.{wrote, write_pointer, read_data, write_da
 use Rattle.controller.specs.Reply.{Outcome, refuses, accepts}
 use Rattle.controller.specs.declared.record.Controller.{Controller}
 use Rattle.notation.proofs.Cases.{and_no_right, split}
-use Rattle.notation.specs.Choice.{if◌then◌else◌, ◌and◌, ◌or◌, among}
+use Rattle.notation.specs.Choice.{when◌then◌else◌, ◌and◌, ◌or◌, among}
 use Rattle.service.specs.Act.{put}
 
 pub not-refused : (o : Outcome) (c : Controller) (v : ℕ) → o ≡ accepts c v → o.refused ≡ 0
@@ -34,7 +34,7 @@ controlled_to c k t = with_armed (with_turn (with_control (with_moved (with_hand
 listed : (c : Controller) (value : ℕ) (t : Turn) → sound c ≡ true → among (kind c.turn) wire_turns ≡ false →
     among (status_of c.turn) faults ≡ false → (flags_of value).ensio ≡ true → response c.turn (flags_of value) ≡ Next t →
     bad_count c (flags_of value) t ≡ false → write_of c 3 value ≡ accepts (controlled_to c (flags_of value) t) 0
-unfolding write_of write_sound indirect_at bars_write write_control write_flags enabled controlled wrote if◌then◌else◌ ◌and◌ ◌or◌
+unfolding write_of write_sound indirect_at bars_write write_control write_flags enabled controlled wrote when◌then◌else◌ ◌and◌ ◌or◌
 listed c value t s w l e r b = rw (s, w, l, r, b, e)
 
 pub control-accepted : (c : Controller) (value : ℕ) (u t : Turn) → sound c ≡ true → c.turn ≡ u → among (kind u) wire_turns ≡ false →
@@ -56,7 +56,7 @@ data_written c x = with_armed (with_hand (with_place c c.hand x) (c.hand + 1)) f
 
 pub data_accepted : (c : Controller) (x : ℕ) → sound c ≡ true → among (kind c.turn) wire_turns ≡ false → eqb c.hand 68 ≡ false →
     write_of c 1 x ≡ accepts (data_written c x) 0
-unfolding write_of write_sound indirect_at bars_write write_data wrote if◌then◌else◌ ◌and◌ ◌or◌
+unfolding write_of write_sound indirect_at bars_write write_data wrote when◌then◌else◌ ◌and◌ ◌or◌
 data_accepted c x s w h = rw (s, w, h)
 
 pub data_written_lem : (c : Controller) (x : ℕ) → sound c ≡ true → among (kind c.turn) wire_turns ≡ false → c.hand < 68 →
@@ -66,7 +66,7 @@ data_written_lem c x s w h = ap (λ (o : Outcome). o.next) (data_accepted c x s 
 
 -- INDPTR is written in any turn
 pub pointer-accepted : (c : Controller) (x : ℕ) → sound c ≡ true → write_of c 0 x ≡ accepts (with_armed (with_pointer c (x % 8)) false) 0
-unfolding write_of write_sound indirect_at bars_write write_pointer wrote if◌then◌else◌ ◌and◌ ◌or◌
+unfolding write_of write_sound indirect_at bars_write write_pointer wrote when◌then◌else◌ ◌and◌ ◌or◌
 pointer-accepted c x s = rw s
 
 pub pointer-written : (c : Controller) (x : ℕ) → sound c ≡ true → put c 0 x ≡ with_armed (with_pointer c (x % 8)) false
@@ -76,7 +76,7 @@ pointer-written c x s = ap (λ (o : Outcome). o.next) (pointer-accepted c x s)
 -- I2CCOUNT, register 2 with the pointer at 00h
 pub count-accepted : (c : Controller) (x : ℕ) → sound c ≡ true → among (kind c.turn) wire_turns ≡ false → c.pointer ≡ 0 →
     write_of c 2 x ≡ accepts (with_armed (with_registers c (with_count c.registers x)) false) 0
-unfolding write_of write_sound indirect_at bars_write write_at_pointer stored wrote if◌then◌else◌ ◌and◌ ◌or◌
+unfolding write_of write_sound indirect_at bars_write write_at_pointer stored wrote when◌then◌else◌ ◌and◌ ◌or◌
 count-accepted c x s w p = rw (s, p, w)
 
 pub count-written : (c : Controller) (x : ℕ) → sound c ≡ true → among (kind c.turn) wire_turns ≡ false → c.pointer ≡ 0 →
@@ -87,17 +87,17 @@ count-written c x s w p = ap (λ (o : Outcome). o.next) (count-accepted c x s w 
 -- an I2CDAT read out of the wire turns
 pub data_read : (c : Controller) → sound c ≡ true → among (kind c.turn) wire_turns ≡ false → c.hand < 68 →
     read_of c 1 ≡ accepts (with_hand c (c.hand + 1)) (place c c.hand)
-unfolding read_of read_sound indirect_at bars_read read_data if◌then◌else◌ ◌and◌
+unfolding read_of read_sound indirect_at bars_read read_data when◌then◌else◌ ◌and◌
 data_read c s w h = rw (s, w, ne_eqb c.hand 68 (omega arith))
 
 -- register 2 is read with the pointer at 07h, in any turn
 pub moved-accepted : (c : Controller) → sound c ≡ true → c.pointer ≡ 7 → read_of c 2 ≡ accepts c (at_pointer c)
-unfolding read_of read_sound indirect_at bars_read if◌then◌else◌ ◌and◌
+unfolding read_of read_sound indirect_at bars_read when◌then◌else◌ ◌and◌
 moved-accepted c s p = rw (s, p, and_no_right (among (kind c.turn) wire_turns) false refl)
 
 -- a read of register 2 changes nothing
 pub count-read : (c : Controller) → (read_of c 2).next ≡ c
-unfolding read_of read_sound refuses accepts if◌then◌else◌
+unfolding read_of read_sound refuses accepts when◌then◌else◌
 count-read c =
     split P (sound c) _ _ (λ _. split P (indirect_at c 2 5) _ _ (λ _. refl) (λ _. split P (bars_read c 2) _ _ (λ _. refl) (λ _. refl))) (λ _. refl)
   where

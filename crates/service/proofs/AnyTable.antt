@@ -8,8 +8,8 @@ use Rattle.answer.specs.declared.ending.Ending.TheVariants.{Reset}
 use Rattle.control.specs.Turn.{status_of}
 use Rattle.controller.specs.Record.{sound}
 use Rattle.laws.proofs.Status.{status-reads}
-use Rattle.notation.proofs.Cases.{if-true, if-false}
-use Rattle.notation.specs.Choice.{if◌then◌else◌}
+use Rattle.notation.proofs.Cases.{when-true, when-false}
+use Rattle.notation.specs.Choice.{when◌then◌else◌}
 use Rattle.service.specs.Act.{
   Act,
   writes,
@@ -70,8 +70,8 @@ follows-events (awaits ending) p = refl
 follows-events (ends ending) p = refl
 follows-events finishes p = refl
 
-either : (n : ℕ) (b : Bool) (q r : Progress) → q.events ≡ n → r.events ≡ n → (if b then q else r).events ≡ n
-unfolding if◌then◌else◌
+either : (n : ℕ) (b : Bool) (q r : Progress) → q.events ≡ n → r.events ≡ n → (when b then q else r).events ≡ n
+unfolding when◌then◌else◌
 either n true q r e f = e
 either n false q r e f = f
 
@@ -84,24 +84,24 @@ serve-events table event p =
 -- Of a sound record: event 14 and own STOP end the job, at F8h the driver waits, and at any other status it goes by the table.
 module _ (table : Table) (event : ℕ) (p : Progress) where
   pub at-reset : event ≡ 14 → serve table event p ≡ follows (ends Reset) p
-  unfolding serve if◌then◌else◌
+  unfolding serve when◌then◌else◌
   at-reset e = rw e
 
   pub at_stop : event ≡ 4 → serve table event p ≡ follows finishes p
-  unfolding serve if◌then◌else◌
+  unfolding serve when◌then◌else◌
   at_stop e = rw e
 
   module _ (not-reset : eqb event 14 ≡ false) (not_stop : eqb event 4 ≡ false) (s : sound p.controller ≡ true) where
     by_status : serve table event p ≡
-        (if eqb (status_of p.controller.turn) 0xF8 then p else performs (table (status_of p.controller.turn) p.count) p)
+        (when eqb (status_of p.controller.turn) 0xF8 then p else performs (table (status_of p.controller.turn) p.count) p)
     unfolding serve reads
     by_status =
-        if-false _ _ _ not-reset ∙ if-false _ _ _ not_stop
-        ∙ ap (λ (status : ℕ). if eqb status 0xF8 then p else performs (table status p.count) p) (status-reads p.controller s)
+        when-false _ _ _ not-reset ∙ when-false _ _ _ not_stop
+        ∙ ap (λ (status : ℕ). when eqb status 0xF8 then p else performs (table status p.count) p) (status-reads p.controller s)
 
     pub at-idle : eqb (status_of p.controller.turn) 0xF8 ≡ true → serve table event p ≡ p
-    at-idle e = by_status ∙ if-true _ _ _ e
+    at-idle e = by_status ∙ when-true _ _ _ e
 
     pub at-status : eqb (status_of p.controller.turn) 0xF8 ≡ false →
         serve table event p ≡ performs (table (status_of p.controller.turn) p.count) p
-    at-status e = by_status ∙ if-false _ _ _ e
+    at-status e = by_status ∙ when-false _ _ _ e

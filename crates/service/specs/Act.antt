@@ -4,7 +4,7 @@ use Rattle.std.specs.Prelude.{true, List, [], ◌∷◌, ℕ, zero, suc, ◌+◌
 use Rattle.answer.specs.declared.ending.Ending.{Ending}
 use Rattle.controller.specs.Access.{read_of, write_of}
 use Rattle.controller.specs.declared.record.Controller.{Controller}
-use Rattle.notation.specs.Choice.{if◌then◌else◌}
+use Rattle.notation.specs.Choice.{when◌then◌else◌}
 use Rattle.service.specs.Progress.{with_record, with_over, with_ending, with_noted_count, with_fetched}
 use Rattle.service.specs.declared.progress.Progress.{Progress}
 
@@ -55,7 +55,7 @@ fetch (suc more) i p = fetch more (i + 1) (fetch_one i p)
 
 -- there are 68 places to note bytes at, so I2CDAT is read 68 times at most
 unfoldable pub read_times : ℕ → ℕ
-read_times count = if ltb 68 count then 68 else count
+read_times count = when ltb 68 count then 68 else count
 
 unfoldable pub does : Act → Progress → Progress
 does (writes register value) p = with_record p (put p.controller register value)

@@ -9,7 +9,7 @@ use Rattle.std.specs.Prelude.{List, [], ◌∷◌, ◌++◌, map, ℕ, eqb, take
 use Rattle.address.specs.Number.{byte_of}
 use Rattle.answer.specs.declared.ending.Ending.TheVariants.{Done, AddressNacked, DataNacked, Lost, Fault}
 use Rattle.control.specs.Turn.{faults}
-use Rattle.notation.specs.Choice.{if◌then◌else◌, among}
+use Rattle.notation.specs.Choice.{when◌then◌else◌, among}
 use Rattle.service.specs.Act.{writes, reads_all, counts}
 use Rattle.service.specs.JobSteps.{finds_moved, go_on_after, stop_after, end_after}
 use Rattle.service.specs.Serve.{Table}
@@ -17,13 +17,13 @@ use Rattle.service.specs.declared.job.Job.{Job}
 
 unfoldable pub job_table : Job → List ℕ → Table
 job_table job payload status count =
-    if eqb status 0x08 then go_on_after (writes 1 (byte_of job.address job.direction).0 ∷ writes 3 0x40 ∷ [])
-    else if eqb status 0x18 then go_on_after (map (writes 1) (take job.n payload) ++ (writes 3 0x41 ∷ []))
-    else if eqb status 0x40 then go_on_after (writes 3 0x41 ∷ [])
-    else if among status (0x20 ∷ 0x48 ∷ []) then stop_after (counts 0 ∷ []) AddressNacked
-    else if eqb status 0x28 then stop_after (counts job.n ∷ []) Done
-    else if eqb status 0x30 then stop_after finds_moved DataNacked
-    else if eqb status 0x58 then stop_after (counts job.n ∷ reads_all ∷ []) Done
-    else if eqb status 0x38 then end_after (writes 3 0x40 ∷ []) Lost
-    else if among status faults then end_after [] Fault
+    when eqb status 0x08 then go_on_after (writes 1 (byte_of job.address job.direction).0 ∷ writes 3 0x40 ∷ [])
+    else when eqb status 0x18 then go_on_after (map (writes 1) (take job.n payload) ++ (writes 3 0x41 ∷ []))
+    else when eqb status 0x40 then go_on_after (writes 3 0x41 ∷ [])
+    else when among status (0x20 ∷ 0x48 ∷ []) then stop_after (counts 0 ∷ []) AddressNacked
+    else when eqb status 0x28 then stop_after (counts job.n ∷ []) Done
+    else when eqb status 0x30 then stop_after finds_moved DataNacked
+    else when eqb status 0x58 then stop_after (counts job.n ∷ reads_all ∷ []) Done
+    else when eqb status 0x38 then end_after (writes 3 0x40 ∷ []) Lost
+    else when among status faults then end_after [] Fault
     else go_on_after []

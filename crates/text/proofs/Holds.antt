@@ -10,7 +10,7 @@ use lib.ListN.{length, take, drop, set, length-append, length-set, take-append-d
 use Rattle.text.specs.Text.{place_after, Holds}
 use Rattle.notation.proofs.Overlay.{none as laid_none, past_end, one_more}
 use Rattle.notation.specs.Overlay.{laid, laid_at}
-use Rattle.notation.proofs.Cases.{if-false, split}
+use Rattle.notation.proofs.Cases.{when-false, split}
 
 -- a case for each outcome of a test
 either : (P : Type 0) (a b : ℕ) → (a < b → P) → (b ≤ a → P) → P
@@ -30,7 +30,7 @@ place_min at n room h =
 
 place-past : (at n room : ℕ) → room ≤ at → place_after at n room ≡ at
 unfolding place_after
-place-past at n room h = if-false _ _ _ (le-ltb (at + n) room (omega arith)) ∙ if-false _ _ _ (le-ltb at room h)
+place-past at n room h = when-false _ _ _ (le-ltb (at + n) room (omega arith)) ∙ when-false _ _ _ (le-ltb at room h)
 
 place_none : (at room : ℕ) → place_after at 0 room ≡ at
 place_none at room =

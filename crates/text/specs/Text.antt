@@ -1,11 +1,11 @@
 -- Words, numbers and bytes as text, and where they stand in lent memory.
 use Rattle.std.specs.Prelude.{List, [], ◌∷◌, ◌++◌, ◌≡◌, ℕ, zero, suc, ◌+◌, ◌/◌, ◌%◌, ltb, length}
 use Rattle.notation.specs.Overlay.{laid_at}
-use Rattle.notation.specs.Choice.{if◌then◌else◌}
+use Rattle.notation.specs.Choice.{when◌then◌else◌}
 
 -- a digit: 0 to 9, A to F
 unfoldable pub digit : ℕ → ℕ
-digit n = if ltb n 10 then 48 + n else 55 + n
+digit n = when ltb n 10 then 48 + n else 55 + n
 
 -- a byte in hexadecimal, two digits in upper case
 unfoldable pub hex_of : ℕ → List ℕ
@@ -14,7 +14,7 @@ hex_of byte = digit (byte / 16) ∷ digit (byte % 16) ∷ []
 -- a number in decimal, of at most so many digits
 unfoldable pub decimal_of : ℕ → ℕ → List ℕ
 decimal_of zero n = []
-decimal_of (suc places) n = if ltb n 10 then digit n ∷ [] else decimal_of places (n / 10) ++ (digit (n % 10) ∷ [])
+decimal_of (suc places) n = when ltb n 10 then digit n ∷ [] else decimal_of places (n / 10) ++ (digit (n % 10) ∷ [])
 
 -- bytes in hexadecimal, a space before each
 unfoldable pub listed : List ℕ → List ℕ
@@ -24,8 +24,8 @@ listed (byte ∷ bytes) = 32 ∷ (hex_of byte ++ listed bytes)
 -- the place after so many bytes more, at most the end of memory of this room; a place past the end stays
 unfoldable pub place_after : ℕ → ℕ → ℕ → ℕ
 place_after at more room =
-    if ltb (at + more) room then at + more
-    else if ltb at room then room
+    when ltb (at + more) room then at + more
+    else when ltb at room then room
     else at
 
 -- What every function here promises: from place `at` on the memory holds the text, as far as it has room, its rest is as it was, and

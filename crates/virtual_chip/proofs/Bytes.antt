@@ -13,13 +13,13 @@ use Rattle.controller.specs.Reset.{reset_with}
 use Rattle.controller.specs.declared.record.Controller.{Controller}
 use Rattle.notation.proofs.Cases.{split}
 use Rattle.notation.proofs.Laid.{laid-append, part_length}
-use Rattle.notation.specs.Choice.{if◌then◌else◌}
+use Rattle.notation.specs.Choice.{when◌then◌else◌}
 use Rattle.notation.specs.Overlay.{laid, laid_at}
 use Rattle.virtual_chip.specs.RecordBytes.{flag_bytes, register_bytes, head_bytes, bytes_of, record_in, is_record, decoded, no_record, record_of}
 
 -- a bool as a byte
 pub flag_byte : (b : Bool) → bool_byte b ≡ weighs b 1
-unfolding weighs if◌then◌else◌
+unfolding weighs when◌then◌else◌
 flag_byte true = refl
 flag_byte false = refl
 
@@ -29,8 +29,8 @@ unfolding bytes_of head_bytes flag_bytes register_bytes
 parts-laid c m = laid-append (head_bytes c) c.buffer m
 
 -- bytes that are a record have room for one
-not_short : (b rest : Bool) → (if b then false else rest) ≡ true → b ≡ false
-unfolding if◌then◌else◌
+not_short : (b rest : Bool) → (when b then false else rest) ≡ true → b ≡ false
+unfolding when◌then◌else◌
 not_short true rest e = absurd (false≢true e)
 not_short false rest e = refl
 

@@ -24,7 +24,7 @@ use Rattle.controller.specs.Reset.{reset_with, reset, write_preset}
 use Rattle.controller.specs.Transfer.{data_out, byte_out, received, data_in, slave_in, byte_in}
 use Rattle.controller.specs.declared.record.Controller.{Controller}
 use Rattle.notation.proofs.Cases.{split}
-use Rattle.notation.specs.Choice.{if◌then◌else◌}
+use Rattle.notation.specs.Choice.{when◌then◌else◌}
 use Rattle.requests.specs.Groups.{group_of}
 
 -- the outcome's record has as many places
@@ -60,7 +60,7 @@ reset-done : (c : Controller) (v : ℕ) → Sized c (accepts (reset c) v)
 unfolding reset_with
 reset-done c v = accepted c _ v refl
 
-choose : (c : Controller) (b : Bool) (x y : Outcome) → Sized c x → Sized c y → Sized c (if b then x else y)
+choose : (c : Controller) (b : Bool) (x y : Outcome) → Sized c x → Sized c y → Sized c (when b then x else y)
 choose c b x y p q = split (Sized c) b x y (λ _. p) (λ _. q)
 
 ruleset ends = (refused, accepted, waiting, interrupted, changed, written, reset-done, choose, length-set, refl)

@@ -22,9 +22,9 @@ use Rattle.controller.specs.Reply.{Outcome}
 use Rattle.controller.specs.Setters.{with_buffer}
 use Rattle.controller.specs.declared.record.Controller.{Controller}
 use Rattle.laws.proofs.Refusals.{read_stays, write-stays, event-stays}
-use Rattle.notation.proofs.Cases.{if-true, if-false, split}
+use Rattle.notation.proofs.Cases.{when-true, when-false, split}
 use Rattle.notation.proofs.Laid.{laid-whole}
-use Rattle.notation.specs.Choice.{if◌then◌else◌, ◌and◌, ◌or◌}
+use Rattle.notation.specs.Choice.{when◌then◌else◌, ◌and◌, ◌or◌}
 use Rattle.notation.specs.Overlay.{laid}
 use Rattle.requests.specs.Groups.{group_of}
 use Rattle.virtual_chip.proofs.Bytes.{record-long, record-places}
@@ -39,7 +39,7 @@ abbrev TurnBack : Turn → Type 0
 TurnBack t = (turn_for (turn_number t) (status_of t) ≡ t) × (is_turn (turn_number t) ≡ true)
 
 turn-back : (t : Turn) → TurnBack t
-unfolding turn_for turn_number host_number slave_number status_of is_turn if◌then◌else◌ ◌or◌
+unfolding turn_for turn_number host_number slave_number status_of is_turn when◌then◌else◌ ◌or◌
 turn-back Off = (refl, refl)
 turn-back (Host status Stop) = (refl, refl)
 turn-back (Host status Start) = (refl, refl)
@@ -59,7 +59,7 @@ abbrev ReasonBack : Reason → Type 0
 ReasonBack r = (reason_for (reason_number r) ≡ r) × (ltb (reason_number r) 7 ≡ true)
 
 reason-back : (r : Reason) → ReasonBack r
-unfolding reason_for if◌then◌else◌
+unfolding reason_for when◌then◌else◌
 reason-back NoneYet = (refl, refl)
 reason-back CountReached = (refl, refl)
 reason-back Nack = (refl, refl)
@@ -69,7 +69,7 @@ reason-back Fault = (refl, refl)
 reason-back Reset = (refl, refl)
 
 flag_back : (b : Bool) → (eqb (weighs b 1) 1 ≡ b) × (ltb (weighs b 1) 2 ≡ true)
-unfolding weighs if◌then◌else◌
+unfolding weighs when◌then◌else◌
 flag_back true = (refl, refl)
 flag_back false = (refl, refl)
 
@@ -121,8 +121,8 @@ whole_back : (c : Controller) (rest : List ℕ) → length c.buffer ≡ 68 → B
 unfolding is_record record_of bytes_of head_bytes flag_bytes register_bytes
 whole_back c rest l =
     let n = length-append c.buffer rest in
-    let there = if-false _ _ _ (le-ltb (length (bytes_of c ++ rest)) 88 (omega (arith, n, l))) ∙ record-there c (c.buffer ++ rest) in
-    (there, if-true _ _ _ there ∙ head_back c (c.buffer ++ rest) ∙ ap (with_buffer c) (take_at c.buffer rest 68 l))
+    let there = when-false _ _ _ (le-ltb (length (bytes_of c ++ rest)) 88 (omega (arith, n, l))) ∙ record-there c (c.buffer ++ rest) in
+    (there, when-true _ _ _ there ∙ head_back c (c.buffer ++ rest) ∙ ap (with_buffer c) (take_at c.buffer rest 68 l))
 
 -- READING BACK what was stored is the record.
 pub read_back_lem : ReadBack
@@ -157,4 +157,4 @@ module _ (m : List ℕ) (kind place value : ℕ) (there : is_record m ≡ true) 
 
   pub called : Called (access_call m kind place value)
   unfolding access_call
-  called = subst Called (sym (if-true _ _ _ there)) replied
+  called = subst Called (sym (when-true _ _ _ there)) replied

@@ -7,7 +7,7 @@ use borrow.Author.Tests.{le-ltb}
 use lib.Dec.{eqb}
 use lib.ListN.{length}
 use Rattle.controller.specs.Reply.{Outcome}
-use Rattle.notation.proofs.Cases.{if-true, if-false}
+use Rattle.notation.proofs.Cases.{when-true, when-false}
 use Rattle.notation.specs.Overlay.{laid}
 use Rattle.requests.specs.Groups.{group_of}
 use Rattle.virtual_chip.proofs.Bytes.{record-long}
@@ -27,7 +27,7 @@ module _ (m : List ℕ) (kind place given refused value : ℕ) (o : Outcome) (fo
     (r : refused ≡ o.refused) (v : value ≡ o.value) where
   call_is : access_call m kind place given ≡ replying o
   unfolding access_call
-  call_is = if-true _ _ _ found ∙ ap replying (sym e)
+  call_is = when-true _ _ _ found ∙ ap replying (sym e)
 
   number : refused + 256 * value ≡ packed o
   unfolding packed
@@ -38,16 +38,16 @@ module _ (m : List ℕ) (kind place given refused value : ℕ) (o : Outcome) (fo
   unfolding replying stored
   accepted after zero laying =
       gives (replying o) _ _ _ _ call_is
-      (gives _ (replying o) _ after m (if-true _ _ _ (ap (λ (k : ℕ). eqb k 0) (sym r) ∙ zero))
-      (number, laying ∙ ap (λ (xs : List ℕ). laid xs m) (if-false _ _ _ (le-ltb (length m) 88 (record-long m found)))))
+      (gives _ (replying o) _ after m (when-true _ _ _ (ap (λ (k : ℕ). eqb k 0) (sym r) ∙ zero))
+      (number, laying ∙ ap (λ (xs : List ℕ). laid xs m) (when-false _ _ _ (le-ltb (length m) 88 (record-long m found)))))
 
   pub refused_so : eqb refused 0 ≡ false → Gives (access_call m kind place given) (refused + 256 * value) m m
   unfolding replying refusing laid
   refused_so other =
       gives (replying o) _ _ _ _ call_is
-      (gives _ (replying o) _ m m (if-false _ _ _ (ap (λ (k : ℕ). eqb k 0) (sym r) ∙ other)) (number, refl))
+      (gives _ (replying o) _ m m (when-false _ _ _ (ap (λ (k : ℕ). eqb k 0) (sym r) ∙ other)) (number, refl))
 
 -- of bytes that are no record
 pub no_record_there : (m : List ℕ) (kind place given : ℕ) → is_record m ≡ false → Gives (access_call m kind place given) 10 m m
 unfolding access_call refusing laid
-no_record_there m kind place given other = gives (refusing 10) _ _ m m (if-false _ _ _ other) (refl, refl)
+no_record_there m kind place given other = gives (refusing 10) _ _ m m (when-false _ _ _ other) (refl, refl)

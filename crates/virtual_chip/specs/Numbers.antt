@@ -10,7 +10,7 @@ use Rattle.control.specs.declared.turn.Edge.{Edge}
 use Rattle.control.specs.declared.turn.Turn.TheVariants.{Off, Host, Free, Busy, Listen}
 use Rattle.control.specs.declared.turn.Turn.TheVariants.{Address, Send, Receive, SlaveReceive, SlaveSend, Stopping, Restarting}
 use Rattle.control.specs.declared.turn.Turn.{Turn}
-use Rattle.notation.specs.Choice.{if◌then◌else◌, ◌or◌}
+use Rattle.notation.specs.Choice.{when◌then◌else◌, ◌or◌}
 
 -- "whether a STOP or a START came": 16 more for a START
 abbrev pub host_start : ℕ
@@ -50,28 +50,28 @@ is_turn k = ltb k 12 or eqb k host_start or eqb k slave_general
 -- the turn with this number, and with this status if it is Host; a number that no turn has is read as Off
 unfoldable pub turn_for : ℕ → ℕ → Turn
 turn_for k status =
-    if eqb k host then Host status Stop
-    else if eqb k free then Free
-    else if eqb k busy then Busy
-    else if eqb k listen then Listen
-    else if eqb k address then Address
-    else if eqb k send then Send
-    else if eqb k receive then Receive
-    else if eqb k slave_receive then SlaveReceive Own
-    else if eqb k slave_send then SlaveSend
-    else if eqb k stopping then Stopping
-    else if eqb k restarting then Restarting
-    else if eqb k host_start then Host status Start
-    else if eqb k slave_general then SlaveReceive General
+    when eqb k host then Host status Stop
+    else when eqb k free then Free
+    else when eqb k busy then Busy
+    else when eqb k listen then Listen
+    else when eqb k address then Address
+    else when eqb k send then Send
+    else when eqb k receive then Receive
+    else when eqb k slave_receive then SlaveReceive Own
+    else when eqb k slave_send then SlaveSend
+    else when eqb k stopping then Stopping
+    else when eqb k restarting then Restarting
+    else when eqb k host_start then Host status Start
+    else when eqb k slave_general then SlaveReceive General
     else Off
 
 -- the reason with this number; a number that no reason has is read as none yet
 unfoldable pub reason_for : ℕ → Reason
 reason_for k =
-    if eqb k 1 then CountReached
-    else if eqb k 2 then Nack
-    else if eqb k 3 then Outside
-    else if eqb k 4 then ArbitrationLost
-    else if eqb k 5 then Fault
-    else if eqb k 6 then Reset
+    when eqb k 1 then CountReached
+    else when eqb k 2 then Nack
+    else when eqb k 3 then Outside
+    else when eqb k 4 then ArbitrationLost
+    else when eqb k 5 then Fault
+    else when eqb k 6 then Reset
     else NoneYet

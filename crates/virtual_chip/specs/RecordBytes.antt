@@ -8,7 +8,7 @@ use Rattle.controller.specs.Reset.{fresh}
 use Rattle.controller.specs.Setters.{made, with_pointer}
 use Rattle.controller.specs.declared.record.Controller.{Controller}
 use Rattle.controller.specs.declared.record.Registers.{Registers}
-use Rattle.notation.specs.Choice.{if◌then◌else◌, ◌and◌}
+use Rattle.notation.specs.Choice.{when◌then◌else◌, ◌and◌}
 use Rattle.virtual_chip.specs.Numbers.{turn_number, is_turn, turn_for, reason_for}
 
 abbrev pub record_size : ℕ
@@ -43,7 +43,7 @@ record_in m = eqb (get_or m 0 0) 0x50 and eqb (get_or m 1 0) 0x43 and is_turn (g
 
 -- bytes that are a record, sound or not
 unfoldable pub is_record : List ℕ → Bool
-is_record m = if ltb (length m) record_size then false else record_in m
+is_record m = when ltb (length m) record_size then false else record_in m
 
 -- the record in bytes that are one
 unfoldable pub decoded : List ℕ → Controller
@@ -66,8 +66,8 @@ no_record = with_pointer fresh 8
 
 -- the record in any bytes
 unfoldable pub record_of : List ℕ → Controller
-record_of m = if is_record m then decoded m else no_record
+record_of m = when is_record m then decoded m else no_record
 
 -- what storing a record writes: nothing where there is no room for it
 unfoldable pub stored : ℕ → Controller → List ℕ
-stored room c = if ltb room record_size then [] else bytes_of c
+stored room c = when ltb room record_size then [] else bytes_of c

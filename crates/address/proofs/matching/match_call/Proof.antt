@@ -13,17 +13,17 @@ use Rattle.address.specs.declared.matching.Match.{Match}
 use Rattle.address.specs.declared.number.AddressByte.{AddressByte}
 use Rattle.address.specs.declared.number.Direction.TheVariants.{Write, Read}
 use Rattle.notation.proofs.Cases.{calls, cases}
-use Rattle.notation.specs.Choice.{if◌then◌else◌}
+use Rattle.notation.specs.Choice.{when◌then◌else◌}
 use Rattle.address.proofs.matching.match_call.Statement.{statement}
 use Rattle.address.proofs.matching.match_call.Tie as tie
 
 -- what a key answers
 keyed : ℕ → Match
-keyed key = if eqb key 0 then Own Write else if eqb key 1 then Own Read else Nothing
+keyed key = when eqb key 0 then Own Write else when eqb key 1 then Own Read else Nothing
 
 -- that is what the definition says of a byte that is no General Call
-own-keyed : (own : Bool) (r : ℕ) → r < 2 → keyed (r + 2 * bool_byte (not own)) ≡ (if own then Own (if eqb r 1 then Read else Write) else Nothing)
-unfolding if◌then◌else◌ keyed
+own-keyed : (own : Bool) (r : ℕ) → r < 2 → keyed (r + 2 * bool_byte (not own)) ≡ (when own then Own (when eqb r 1 then Read else Write) else Nothing)
+unfolding when◌then◌else◌ keyed
 own-keyed true zero h = refl
 own-keyed true (suc zero) h = refl
 own-keyed false zero h = refl
@@ -52,11 +52,11 @@ unfolding call_of
 returns c = search calls
 
 returns-2 : tie.Need-returns-2
-unfolding keyed if◌then◌else◌
+unfolding keyed when◌then◌else◌
 returns-2 c = sym (ap keyed c.match.keys1) ∙ search matched
 
 returns-3 : tie.Need-returns-3
-unfolding keyed if◌then◌else◌
+unfolding keyed when◌then◌else◌
 returns-3 c = sym (ap keyed c.match.keys2) ∙ search matched
 
 returns-4 : tie.Need-returns-4

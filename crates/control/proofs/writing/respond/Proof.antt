@@ -5,7 +5,7 @@ use borrow.Author.Rules.{rules}
 use Rattle.control.specs.Turn.{kind, status_of, edge_of, off, host}
 use Rattle.control.specs.Writing.{response}
 use Rattle.notation.proofs.Cases.{cases}
-use Rattle.notation.specs.Choice.{among, if◌then◌else◌}
+use Rattle.notation.specs.Choice.{among, when◌then◌else◌}
 use Rattle.control.proofs.Turning.{at_turn, at_turns, except}
 use Rattle.control.proofs.writing.respond.Statement.{statement}
 use Rattle.control.proofs.writing.respond.Tie as tie
@@ -15,7 +15,7 @@ unfolding response
 returns c = search (at_turn off c.before.before.args.turn c.before.match.keys1, cases)
 
 returns-2 : tie.Need-returns-2
-unfolding response kind status_of edge_of among if◌then◌else◌
+unfolding response kind status_of edge_of among when◌then◌else◌
 returns-2 c = c.respond-at.ensures ∙ rw c.before.before.turn.given.1
 
 returns-3 : tie.Need-returns-3

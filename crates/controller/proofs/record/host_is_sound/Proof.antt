@@ -6,12 +6,12 @@ use Rattle.control.proofs.Turning.{at_turns, except}
 use Rattle.control.specs.Turn.{kind, status_of, host}
 use Rattle.controller.specs.Record.{host_sound}
 use Rattle.notation.proofs.Cases.{cases}
-use Rattle.notation.specs.Choice.{among, if◌then◌else◌}
+use Rattle.notation.specs.Choice.{among, when◌then◌else◌}
 use Rattle.controller.proofs.record.host_is_sound.Statement.{statement}
 use Rattle.controller.proofs.record.host_is_sound.Tie as tie
 
 returns : tie.Need-returns
-unfolding host_sound kind status_of among if◌then◌else◌
+unfolding host_sound kind status_of among when◌then◌else◌
 returns c = c.is-given.ensures ∙ rw c.before.before.turn.given.1
 
 returns-2 : tie.Need-returns-2

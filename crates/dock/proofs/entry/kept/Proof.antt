@@ -10,7 +10,7 @@ use lib.ListN.{length, take}
 use lib.Seq.{take_all}
 use Rattle.address.specs.declared.number.Direction.{Direction}
 use Rattle.notation.proofs.Cases.{split}
-use Rattle.notation.specs.Choice.{if◌then◌else◌}
+use Rattle.notation.specs.Choice.{when◌then◌else◌}
 use Rattle.port.specs.Port.{kept_data}
 use Rattle.dock.proofs.entry.kept.Statement.{statement}
 use Rattle.dock.proofs.entry.kept.Tie as tie
@@ -19,7 +19,7 @@ use Rattle.dock.proofs.entry.kept.Tie as tie
 abbrev FirstOf : ℕ → ℕ → ℕ → Type 0
 FirstOf n lent r = (r ≤ lent) × ((bytes : List ℕ) → length bytes ≡ lent → take r bytes ≡ take n bytes)
 
-least_first : (n lent : ℕ) → FirstOf n lent (if ltb n lent then n else lent)
+least_first : (n lent : ℕ) → FirstOf n lent (when ltb n lent then n else lent)
 least_first n lent =
     split (FirstOf n lent) (ltb n lent) n lent (λ t. let l = ltb-true n lent t in (omega (arith, l), λ bytes e. refl))
     (λ f. let l = ltb-false n lent f in

@@ -9,7 +9,7 @@ use Rattle.notation.proofs.Laid.{laid_same, part_length}
 use Rattle.dock.proofs.Told.{not_done_lem, told-kept}
 use Rattle.dock.specs.Calls.{too_short, give_up_call}
 use Rattle.dock.specs.StateBytes.{head_bytes, port_of}
-use Rattle.notation.proofs.Cases.{if-true, if-false}
+use Rattle.notation.proofs.Cases.{when-true, when-false}
 use Rattle.notation.specs.Overlay.{laid}
 use Rattle.port.proofs.Begun.{broken-off}
 use Rattle.port.specs.Ask.{ask_number}
@@ -22,7 +22,7 @@ use Rattle.dock.proofs.entry.perlovasta_give_up.Tie as tie
 
 returns : tie.Need-returns
 unfolding give_up_call too_short
-returns c = let m = c.before.before.args.state.now in not_done_lem (give_up_call m) m (if-true _ _ _ c.if1.true)
+returns c = let m = c.before.before.args.state.now in not_done_lem (give_up_call m) m (when-true _ _ _ c.if1.true)
 
 returns-2 : tie.Need-returns-2
 unfolding give_up_call too_short given_up give_up_of port_of
@@ -31,7 +31,7 @@ returns-2 c =
     let long = ltb-false (length m) 148 c.before.before.before.before.before.before.before.if1.false in
     let tell = c.before.before.tell-first in
     let stand = c.before.before.before.give-up.ensures ∙ ap give_up_of c.before.before.before.before.load.ensures in
-    told-kept (give_up_call m) (given_up (port_of m)) m m _ _ (if-false _ _ _ c.before.before.before.before.before.before.before.if1.false)
+    told-kept (give_up_call m) (given_up (port_of m)) m m _ _ (when-false _ _ _ c.before.before.before.before.before.before.before.if1.false)
     (tell.ensures.0 ∙ ap (λ (s : Stand). ask_number (first_ask s)) stand ∙ ap ask_number (sym (broken-off (take 68 (drop 12 m)) 27 true)))
     (tell.ensures.1 ∙ ap (λ (s : Stand). laid (head_bytes s) m) stand)
     refl (part_length 12 m (omega (arith, long))) (sym (laid_same 80 68 m))

@@ -12,8 +12,8 @@ use Rattle.notation.proofs.Laid.{part_length, set-none}
 use Rattle.dock.proofs.Told.{not_done_lem, told-kept}
 use Rattle.dock.specs.Calls.{too_short, next_call}
 use Rattle.dock.specs.StateBytes.{head_bytes, marked, stand_of, port_of}
-use Rattle.notation.proofs.Cases.{if-true, if-false}
-use Rattle.notation.specs.Choice.{if◌then◌else◌}
+use Rattle.notation.proofs.Cases.{when-true, when-false}
+use Rattle.notation.specs.Choice.{when◌then◌else◌}
 use Rattle.notation.specs.Overlay.{laid, laid_at}
 use Rattle.port.proofs.Begun.{broken-off}
 use Rattle.port.proofs.SameJob.{same-job}
@@ -33,7 +33,7 @@ returns : tie.Need-returns
 unfolding next_call too_short
 returns c =
     let a = c.before.before.args in
-    not_done_lem (next_call a.state.now a.value) a.state.now (if-true _ _ _ c.if1.true)
+    not_done_lem (next_call a.state.now a.value) a.state.now (when-true _ _ _ c.if1.true)
 
 load-marked-requires : tie.Need-load-marked-requires
 load-marked-requires c κs =
@@ -69,7 +69,7 @@ returns-2 c =
     let stand = c.before.before.before.before.before.before.before.before.before.hear-in.ensures
     ∙ ap (λ (s : Stand). hears s (data_in m) a.value) loaded in
     let place = c.before.before.before.before.before.before.before.place.ensures (data_in m) ∙ ap (λ (s : Stand). noted_at s (data_in m)) loaded in
-    told-kept (next_call m a.value) (step (port_of m) a.value) m kept _ _ (if-false _ _ _ at.if1.false)
+    told-kept (next_call m a.value) (step (port_of m) a.value) m kept _ _ (when-false _ _ _ at.if1.false)
     (tell.ensures.0 ∙ ap (λ (s : Stand). ask_number (asks s (data_in kept))) stand)
     (tell.ensures.1 ∙ ap (λ (s : Stand). laid (head_bytes s) kept) stand)
     refl (part_length 12 m (omega (arith, long)))
@@ -78,14 +78,14 @@ returns-2 c =
 -- without the mark
 unmarked : (m : List ℕ) → marked m ≡ false → stand_of m ≡ new
 unfolding stand_of
-unmarked m e = if-false _ _ _ e
+unmarked m e = when-false _ _ _ e
 
 heard-new : (payload : List ℕ) (value : ℕ) → hears new payload value ≡ new
 unfolding hears hears_at
 heard-new payload value = refl
 
 noted-new : (payload : List ℕ) → noted_at new payload ≡ 68
-unfolding noted_at stage_number if◌then◌else◌
+unfolding noted_at stage_number when◌then◌else◌
 noted-new payload = refl
 
 returns-3 : tie.Need-returns-3
@@ -100,7 +100,7 @@ returns-3 c =
     let none = unmarked m (sym mark.is-marked.ensures ∙ c.before.before.before.before.before.if2.false) in
     let heard = ap (λ (s : Stand). hears s (data_in m) a.value) none ∙ heard-new (data_in m) a.value in
     let place = ap (λ (s : Stand). noted_at s (data_in m)) none ∙ noted-new (data_in m) in
-    told-kept (next_call m a.value) (step (port_of m) a.value) m m _ _ (if-false _ _ _ mark.before.before.if1.false)
+    told-kept (next_call m a.value) (step (port_of m) a.value) m m _ _ (when-false _ _ _ mark.before.before.if1.false)
     (tell.ensures.0 ∙ ap (λ (s : Stand). ask_number (first_ask s)) put ∙ ap ask_number (sym (broken-off (data_in m) 22 true))
     ∙ ap (λ (s : Stand). ask_number (asks s (data_in m))) (sym heard))
     (tell.ensures.1 ∙ ap (λ (s : Stand). laid (head_bytes s) m) (put ∙ sym heard))

@@ -12,7 +12,7 @@ use Rattle.dock.proofs.Padded.{padded-length}
 use Rattle.dock.proofs.Told.{not_done_lem, told_anew}
 use Rattle.dock.specs.Calls.{too_short, recover_call}
 use Rattle.dock.specs.StateBytes.{head_bytes, stand_of, port_of}
-use Rattle.notation.proofs.Cases.{if-true, if-false}
+use Rattle.notation.proofs.Cases.{when-true, when-false}
 use Rattle.notation.specs.Overlay.{laid, laid_at}
 use Rattle.port.proofs.Begun.{recovery-asks}
 use Rattle.port.specs.Ask.{ask_number}
@@ -27,7 +27,7 @@ returns : tie.Need-returns
 unfolding recover_call too_short
 returns c =
     let a = c.before.before.before.args in
-    not_done_lem (recover_call a.state.now a.settings.now) a.state.now (if-true _ _ _ c.if1.true)
+    not_done_lem (recover_call a.state.now a.settings.now) a.state.now (when-true _ _ _ c.if1.true)
 
 put-padded-requires-2 : tie.Need-put-padded-requires-2
 put-padded-requires-2 c κs =
@@ -60,7 +60,7 @@ returns-2 c =
     let stand = begun.bring-back.ensures ∙ ap (λ (s : Stand). recover_of s settings) begun.before.load.ensures in
     let first = recovery-asks (take 68 (drop 12 put.new.0)) (stand_of m) settings in
     let size = laid_at-length 80 p.fetched m in
-    told_anew (recover_call m settings) p m put.new.0 _ _ (if-false _ _ _ at.if1.false)
+    told_anew (recover_call m settings) p m put.new.0 _ _ (when-false _ _ _ at.if1.false)
     (tell.ensures.0 ∙ ap (λ (s : Stand). ask_number (first_ask s)) stand ∙ ap ask_number (sym first))
     (tell.ensures.1 ∙ ap (λ (s : Stand). laid (head_bytes s) put.new.0) stand)
     (padded-length settings) (omega (arith, size, long))

@@ -11,7 +11,7 @@ use Rattle.dock.proofs.Padded.{padded-length}
 use Rattle.dock.proofs.Told.{not_done_lem, told_anew}
 use Rattle.dock.specs.Calls.{too_short, job_asked, start_call}
 use Rattle.dock.specs.StateBytes.{head_bytes, stand_of, port_of}
-use Rattle.notation.proofs.Cases.{if-true, if-false}
+use Rattle.notation.proofs.Cases.{when-true, when-false}
 use Rattle.notation.specs.Overlay.{laid, laid_at}
 use Rattle.port.proofs.Begun.{start_asks}
 use Rattle.port.specs.Ask.{ask_number}
@@ -27,7 +27,7 @@ returns : tie.Need-returns
 unfolding start_call too_short
 returns c =
     let a = c.before.before.before.args in
-    not_done_lem (start_call a.state.now a.kind a.address a.n a.bytes.now) a.state.now (if-true _ _ _ c.if1.true)
+    not_done_lem (start_call a.state.now a.kind a.address a.n a.bytes.now) a.state.now (when-true _ _ _ c.if1.true)
 
 put-padded-requires-2 : tie.Need-put-padded-requires-2
 put-padded-requires-2 c κs =
@@ -65,7 +65,7 @@ returns-2 c =
     ∙ ap (λ (j : Job). start_of (stand_of m) j (length bytes)) asked.ensures in
     let first = start_asks (take 68 (drop 12 put.new.0)) (stand_of m) job (length bytes) in
     let size = laid_at-length 80 p.fetched m in
-    told_anew (start_call m a.kind a.address a.n bytes) p m put.new.0 _ _ (if-false _ _ _ at.if1.false)
+    told_anew (start_call m a.kind a.address a.n bytes) p m put.new.0 _ _ (when-false _ _ _ at.if1.false)
     (tell.ensures.0 ∙ ap (λ (s : Stand). ask_number (first_ask s)) stand ∙ ap ask_number (sym first))
     (tell.ensures.1 ∙ ap (λ (s : Stand). laid (head_bytes s) put.new.0) stand)
     (padded-length (kept_data job.direction job.n bytes)) (omega (arith, size, long))

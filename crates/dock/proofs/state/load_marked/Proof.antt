@@ -2,7 +2,7 @@
 use mathlib.Core.Path.{sym}
 use borrow.Author.Rules.{rules}
 use Rattle.dock.specs.StateBytes.{stand_of}
-use Rattle.notation.proofs.Cases.{if-true}
+use Rattle.notation.proofs.Cases.{when-true}
 use Rattle.dock.proofs.state.load_marked.Statement.{statement}
 use Rattle.dock.proofs.state.load_marked.Tie as tie
 
@@ -11,7 +11,7 @@ unfolding stand_of
 returns c =
     let job = c.before.before.before.before.before.before in
     let stage = job.before.before.before.before in
-    rw (stage.of_number.ensures, job.job-for.ensures) (sym (if-true _ _ _ stage.before.before.before.requires.1))
+    rw (stage.of_number.ensures, job.job-for.ensures) (sym (when-true _ _ _ stage.before.before.before.requires.1))
 
 pub load_marked_spec : {M : Type 1} → statement M
 load_marked_spec =

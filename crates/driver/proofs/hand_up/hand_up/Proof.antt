@@ -6,7 +6,7 @@ use borrow.Author.Rules.{rules}
 use lib.Dec.{eqb}
 use Rattle.driver.specs.Run.{hands_up}
 use Rattle.notation.specs.Overlay.{laid}
-use Rattle.notation.proofs.Cases.{if-true, if-false, and-true, and_no_left, and_no_right}
+use Rattle.notation.proofs.Cases.{when-true, when-false, and-true, and_no_left, and_no_right}
 use Rattle.driver.proofs.hand_up.hand_up.Statement.{statement}
 use Rattle.driver.proofs.hand_up.hand_up.Tie as tie
 
@@ -17,21 +17,21 @@ returns c =
     let destination = s.before.before.before.before.before.args.destination.now in
     let done = ap (λ (k : ℕ). eqb k 0) (sym s.before.before.before.number.ensures) ∙ s.before.before.if1.true in
     let read = ap (λ (k : ℕ). eqb k 1) (sym s.before.bit.ensures) ∙ s.if2.true in
-    c.before.before.copy-first.ensures ∙ sym (ap (λ (l : List ℕ). laid l destination) (if-true _ _ _ (and-true _ _ done read)))
+    c.before.before.copy-first.ensures ∙ sym (ap (λ (l : List ℕ). laid l destination) (when-true _ _ _ (and-true _ _ done read)))
 
 returns-2 : tie.Need-returns-2
 unfolding hands_up laid
 returns-2 c =
     let destination = c.before.before.before.before.before.args.destination.now in
     let written = ap (λ (k : ℕ). eqb k 1) (sym c.before.bit.ensures) ∙ c.if2.false in
-    sym (ap (λ (l : List ℕ). laid l destination) (if-false _ _ _ (and_no_right _ _ written)))
+    sym (ap (λ (l : List ℕ). laid l destination) (when-false _ _ _ (and_no_right _ _ written)))
 
 returns-3 : tie.Need-returns-3
 unfolding hands_up laid
 returns-3 c =
     let destination = c.before.before.before.args.destination.now in
     let undone = ap (λ (k : ℕ). eqb k 0) (sym c.before.number.ensures) ∙ c.if1.false in
-    sym (ap (λ (l : List ℕ). laid l destination) (if-false _ _ _ (and_no_left _ _ undone)))
+    sym (ap (λ (l : List ℕ). laid l destination) (when-false _ _ _ (and_no_left _ _ undone)))
 
 pub hand_up_spec : {M : Type 1} → statement M
 hand_up_spec =

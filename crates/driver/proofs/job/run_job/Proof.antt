@@ -8,7 +8,7 @@ use Rattle.controller.specs.Record.{sound}
 use Rattle.controller.specs.declared.record.Controller.{Controller}
 use Rattle.driver.specs.Run.{Run, Report, Result, result_of, ended_result, run, hands_up, reports, declines, job_of}
 use Rattle.driver.specs.declared.result.JobResult.{JobResult}
-use Rattle.notation.proofs.Cases.{if-true, if-false, and_left}
+use Rattle.notation.proofs.Cases.{when-true, when-false, and_left}
 use Rattle.notation.specs.Overlay.{laid}
 use Rattle.service.proofs.Formed.{formed}
 use Rattle.service.proofs.Sound.{acts-sound}
@@ -41,7 +41,7 @@ unfolding job_of
 returns c =
     let s = c.before.before.before.before.before.before.before.args in
     declined c.decline.result _ s.c 21 s.destination.now s.out.now
-    (if-true _ _ _ (sym c.before.before.is-malformed.ensures ∙ c.before.if1.true)) c.decline.ensures
+    (when-true _ _ _ (sym c.before.before.is-malformed.ensures ∙ c.before.if1.true)) c.decline.ensures
 
 start-requires : tie.Need-start-requires
 start-requires c κs = sym c.before.is-ready.ensures ∙ c.if2.true
@@ -79,7 +79,7 @@ returns-2 c =
     let begun : run table begin.result script ≡ whole = ap (λ (p : Progress). run table p script) begin.ensures in
     let well = sym at_ready.before.before.before.is-malformed.ensures ∙ at_ready.before.before.if1.false in
     let able = sym at_ready.before.is-ready.ensures ∙ at_ready.if2.true in
-    let e : report ≡ reports job whole = if-false _ _ _ well ∙ if-true _ _ _ able in
+    let e : report ≡ reports job whole = when-false _ _ _ well ∙ when-true _ _ _ able in
     let end = worked.result in
     let result : ended_result end ≡ whole.result = worked.ensures.0 ∙ ap (λ (r : Run). r.result) begun in
     let fetched : end.fetched ≡ whole.fetched = worked.ensures.1.0 ∙ ap (λ (r : Run). r.fetched) begun in
@@ -103,7 +103,7 @@ returns-3 c =
     let s = c.before.before.before.before.before.before.before.before.before.args in
     let well = sym c.before.before.before.before.is-malformed.ensures ∙ c.before.before.before.if1.false in
     let unready = sym c.before.before.is-ready.ensures ∙ c.before.if2.false in
-    declined c.decline2.result _ s.c 22 s.destination.now s.out.now (if-false _ _ _ well ∙ if-false _ _ _ unready)
+    declined c.decline2.result _ s.c 22 s.destination.now s.out.now (when-false _ _ _ well ∙ when-false _ _ _ unready)
     c.decline2.ensures
 
 pub run_job_spec : {M : Type 1} → statement M

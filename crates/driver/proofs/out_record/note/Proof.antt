@@ -7,7 +7,7 @@ use borrow.Author.Rules.{rules}
 use lib.Dec.{eqb}
 use lib.ListN.{length-set}
 use Rattle.notation.specs.Overlay.{laid_at}
-use Rattle.notation.proofs.Cases.{if-true, if-false}
+use Rattle.notation.proofs.Cases.{when-true, when-false}
 use Rattle.notation.proofs.Overlay.{one_more, past_end}
 use Rattle.driver.proofs.out_record.note.Statement.{statement}
 use Rattle.driver.proofs.out_record.note.Tie as tie
@@ -17,11 +17,11 @@ returns c =
     let s = c.before.before.args in
     let out = s.out.now in
     let six = c.before.if1.true in (
-      sym (if-true _ _ _ six),
+      sym (when-true _ _ _ six),
       (
         length-set out s.sent s.value,
         λ later. one_more s.sent s.value later out c.if2.true
-            ∙ sym (ap (λ (l : List ℕ). laid_at s.sent l out) (if-true (eqb s.event 6) (s.value ∷ later) later six)),
+            ∙ sym (ap (λ (l : List ℕ). laid_at s.sent l out) (when-true (eqb s.event 6) (s.value ∷ later) later six)),
       ),
     )
 
@@ -29,7 +29,7 @@ returns-2 : tie.Need-returns-2
 returns-2 c =
     let s = c.before.before.args in
     let full = c.if2.false in (
-      sym (if-true _ _ _ c.before.if1.true),
+      sym (when-true _ _ _ c.before.if1.true),
       (refl, λ later. past_end (s.sent + 1) _ s.out.now (omega (arith, full)) ∙ sym (past_end s.sent _ s.out.now full)),
     )
 
@@ -37,10 +37,10 @@ returns-3 : tie.Need-returns-3
 returns-3 c =
     let s = c.before.args in
     let other = c.if1.false in (
-      sym (if-false _ _ _ other),
+      sym (when-false _ _ _ other),
       (
         refl,
-        λ later. sym (ap (λ (l : List ℕ). laid_at s.sent l s.out.now) (if-false (eqb s.event 6) (s.value ∷ later) later other)),
+        λ later. sym (ap (λ (l : List ℕ). laid_at s.sent l s.out.now) (when-false (eqb s.event 6) (s.value ∷ later) later other)),
       ),
     )
 

@@ -21,7 +21,7 @@ use Rattle.driver.specs.Run.{Run, ended_of, ended_result, run, closes, taking}
 use Rattle.driver.specs.declared.result.Ended.{Ended}
 use Rattle.laws.proofs.InPlace.{received-below, received-last-below, Applied, applied, received-applied, received-last-applied}
 use Rattle.laws.proofs.Soundness.{event-stays-sound}
-use Rattle.notation.specs.Choice.{if◌then◌else◌}
+use Rattle.notation.specs.Choice.{when◌then◌else◌}
 use Rattle.notation.specs.Overlay.{laid, laid_at}
 use Rattle.service.proofs.AnyTable.{serve-events, at-reset, at_stop, at-idle, at-status}
 use Rattle.service.proofs.Sound.{performs-sound}
@@ -133,8 +133,8 @@ another-pair c = omega (arith, c.before.before.before.before.if1.false)
 
 -- its byte was noted, and the driver did its work
 module _ (c : Met) {value : ℕ} (v : value ≡ (outcome c).value) {sent : ℕ} {out : List ℕ}
-    (n : sent ≡ (if eqb (number c) 6 then sent-before c + 1 else sent-before c))
-    (o : (later : List ℕ) → laid_at sent later out ≡ laid_at (sent-before c) (if eqb (number c) 6 then value ∷ later else later) (out_before c))
+    (n : sent ≡ (when eqb (number c) 6 then sent-before c + 1 else sent-before c))
+    (o : (later : List ℕ) → laid_at sent later out ≡ laid_at (sent-before c) (when eqb (number c) 6 then value ∷ later else later) (out_before c))
     (q : Progress) (s : q ≡ serve (table c) (number c) (given c)) where
   -- the run goes on from there
   goes_on_lem : q.over ≡ false → {t : Progress} → t ≡ q →

@@ -6,7 +6,7 @@ use Rattle.text.proofs.Holds.{said}
 use Rattle.console.specs.JobText.{report_text}
 use Rattle.job.proofs.Parts.{data_small, has_head, has_data, data_part, script_part, same-job}
 use Rattle.job.specs.Program.{program_report, program_text}
-use Rattle.notation.proofs.Cases.{if-true, if-false}
+use Rattle.notation.proofs.Cases.{when-true, when-false}
 use borrow.Author.Rules.{rules}
 use Rattle.job.proofs.input.run.Statement.{statement}
 use Rattle.job.proofs.input.run.Tie as tie
@@ -15,7 +15,7 @@ returns : tie.Need-returns
 unfolding program_text program_report
 returns c =
     let bad = sym c.before.before.before.before.before.is-bad.ensures ∙ c.before.before.before.before.if1.true in
-    said _ _ _ _ (ap report_text (sym (if-true _ _ _ bad))) c.before.before.put-bad.ensures
+    said _ _ _ _ (ap report_text (sym (when-true _ _ _ bad))) c.before.before.put-bad.ensures
 
 data-size-requires : tie.Need-data-size-requires
 data-size-requires c κs = has_head _ (sym c.before.is-bad.ensures ∙ c.if1.false)
@@ -52,7 +52,7 @@ returns-2 c =
     let same = data_part input size.result _ size.ensures in
     let rest = script_part input (3 + size.result) _ (ap (λ (n : ℕ). 3 + n) size.ensures) in
     let job = c.before.before.before.before.before.before.job-in.ensures in
-    said _ _ _ _ (ap report_text (same-job job same rest ∙ sym (if-false _ _ _ fine))) c.before.before.put-run.ensures
+    said _ _ _ _ (ap report_text (same-job job same rest ∙ sym (when-false _ _ _ fine))) c.before.before.put-run.ensures
 
 pub run_spec : {M : Type 1} → statement M
 run_spec =

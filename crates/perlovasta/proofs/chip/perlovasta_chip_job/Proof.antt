@@ -9,7 +9,7 @@ use Rattle.controller.specs.declared.record.Controller.{Controller}
 use Rattle.driver.specs.Run.{Report}
 use Rattle.notation.specs.Overlay.{laid}
 use Rattle.perlovasta.proofs.Answered.{short_report_lem, reported}
-use Rattle.notation.proofs.Cases.{if-true, if-false}
+use Rattle.notation.proofs.Cases.{when-true, when-false}
 use Rattle.perlovasta.specs.Job.{request_report, result_left, chip_after_job}
 use Rattle.perlovasta.specs.ReportBytes.{report_of_job}
 use Rattle.virtual_chip.specs.RecordBytes.{record_of}
@@ -23,7 +23,7 @@ returns c =
     let chip = s.chip.now in
     let g = short_report_lem (record_of chip) s.kind s.address s.n s.payload.now s.destination.now s.out.now s.script.now
     s.report.now c.if1.true in
-    (g.0, (g.1, (g.2, (g.3, sym (ap (λ (xs : List ℕ). laid xs chip) (if-true _ _ _ c.if1.true))))))
+    (g.0, (g.1, (g.2, (g.3, sym (ap (λ (xs : List ℕ). laid xs chip) (when-true _ _ _ c.if1.true))))))
 
 returns-2 : tie.Need-returns-2
 unfolding chip_after_job
@@ -48,7 +48,7 @@ returns-2 c =
     let left =
     ran.1.1.1.1
     ∙ ap (λ (r : Report). laid (result_left (length chip) r.result) chip) same
-    ∙ sym (ap (λ (xs : List ℕ). laid xs chip) (if-false _ _ _ long)) in
+    ∙ sym (ap (λ (xs : List ℕ). laid xs chip) (when-false _ _ _ long)) in
     (g.0, (g.1, (g.2, (g.3, left))))
 
 pub perlovasta_chip_job_spec : {M : Type 1} → statement M

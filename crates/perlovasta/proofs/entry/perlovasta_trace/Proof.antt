@@ -7,7 +7,7 @@ use borrow.Author.Rules.{rules}
 use borrow.Author.Tests.{ltb-false}
 use lib.Dec.{ltb}
 use lib.ListN.{length}
-use Rattle.notation.proofs.Cases.{if-true, if-false, or_left, or_right, or-false}
+use Rattle.notation.proofs.Cases.{when-true, when-false, or_left, or_right, or-false}
 use Rattle.controller.specs.Record.{sound}
 use Rattle.controller.specs.Reset.{fresh}
 use Rattle.laws.proofs.Soundness.{fresh_is_sound}
@@ -24,7 +24,7 @@ declined : (trace log : List ℕ) → bad_trace trace or ltb (length log) (8 * (
     (◌≡◌ {A = ℕ} 21 (trace_call trace (length log)).answer) × (log ≡ laid (trace_call trace (length log)).logged log)
 unfolding trace_call laid
 declined trace log bad =
-    let e : trace_call trace (length log) ≡ record { answer = 21; logged = [] } = if-true _ _ _ bad in
+    let e : trace_call trace (length log) ≡ record { answer = 21; logged = [] } = when-true _ _ _ bad in
     (sym (ap (λ (r : TraceCall). r.answer) e), sym (ap (λ (r : TraceCall). laid r.logged log) e))
 
 returns : tie.Need-returns
@@ -53,7 +53,7 @@ returns-3 c =
     let log = s.args.log.now in
     let fine = sym t.before.before.is-bad.ensures ∙ t.before.if1.false in
     let room = same_room (length log) (length trace / 3) ∙ t.if2.false in
-    let e : trace_call trace (length log) ≡ record { answer = 0; logged = log_of fresh trace } = if-false _ _ _ (or-false _ _ fine room) in (
+    let e : trace_call trace (length log) ≡ record { answer = 0; logged = log_of fresh trace } = when-false _ _ _ (or-false _ _ fine room) in (
       sym (ap (λ (r : TraceCall). r.answer) e),
       c.before.before.put-log.ensures
           ∙ ap (λ (d : Controller). laid (log_of d trace) log) c.before.before.before.before.fresh.ensures

@@ -3,7 +3,7 @@ use mathlib.Core.Path.{◌≡◌, sym, ap, ◌∙◌}
 use borrow.Author.Rules.{rules}
 use lib.ListN.{length}
 use Rattle.driver.specs.Run.{Report, result_of, declines, job_of}
-use Rattle.notation.proofs.Cases.{if-true, if-false}
+use Rattle.notation.proofs.Cases.{when-true, when-false}
 use Rattle.notation.specs.Overlay.{laid}
 use Rattle.service.specs.declared.job.Job.{Job}
 use Rattle.perlovasta.specs.Job.{request_report}
@@ -17,7 +17,7 @@ returns c =
     let destination = s.destination.now in
     let out = s.out.now in
     let report = request_report s.c s.kind s.address s.n s.payload.now (length destination) (length out) s.script.now in
-    let e : report ≡ declines s.c 21 = if-true _ _ _ c.if1.true in (
+    let e : report ≡ declines s.c 21 = when-true _ _ _ c.if1.true in (
       sym (ap (λ (r : Report). r.result) e),
       (
         sym (ap (λ (r : Report). laid r.handed destination) e),
@@ -38,7 +38,7 @@ returns-2 c =
     let job = c.before.before.before.before.before.before.before.job-for in
     let e : job_of job.result payload (length destination) (length out) script s.c ≡ report =
     ap (λ (j : Job). job_of j payload (length destination) (length out) script s.c) job.ensures
-    ∙ sym (if-false _ _ _ c.before.before.before.before.before.before.before.before.if1.false) in (
+    ∙ sym (when-false _ _ _ c.before.before.before.before.before.before.before.before.if1.false) in (
       ran.ensures.0 ∙ ap (λ (r : Report). r.result) e,
       (
         ran.ensures.1.0 ∙ ap (λ (r : Report). laid r.handed destination) e,

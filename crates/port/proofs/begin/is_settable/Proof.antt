@@ -7,13 +7,13 @@ use native.Mathlib.Omega.{arith}
 use borrow.Author.Tests.{ne_eqb}
 use Rattle.notation.proofs.Among.{keys_in}
 use Rattle.notation.proofs.Cases.{cases}
-use Rattle.notation.specs.Choice.{if◌then◌else◌, among}
+use Rattle.notation.specs.Choice.{when◌then◌else◌, among}
 use Rattle.port.specs.Begin.{settable}
 use Rattle.port.proofs.begin.is_settable.Statement.{statement}
 use Rattle.port.proofs.begin.is_settable.Tie as tie
 
 low : (k : ℕ) → k < 5 → among k settable ≡ true
-unfolding among if◌then◌else◌
+unfolding among when◌then◌else◌
 low zero h = refl
 low (suc zero) h = refl
 low (suc (suc zero)) h = refl

@@ -6,7 +6,7 @@ use Rattle.control.proofs.Turning.{at_turn, at_turns, except}
 use Rattle.control.specs.Turn.{off, host, free, busy, listen, kind, edge_of}
 use Rattle.controller.specs.Effect.{after_control}
 use Rattle.notation.proofs.Cases.{cases}
-use Rattle.notation.specs.Choice.{among, if◌then◌else◌}
+use Rattle.notation.specs.Choice.{among, when◌then◌else◌}
 use Rattle.responses.specs.Engine.{beside_table}
 use Rattle.responses.proofs.engine.beside.Statement.{statement}
 use Rattle.responses.proofs.engine.beside.Tie as tie
@@ -16,7 +16,7 @@ unfolding beside_table
 returns c = c.accept.ensures ∙ search (at_turn off c.before.before.before.args.c.turn c.before.before.match.keys1, cases)
 
 returns-2 : tie.Need-returns-2
-unfolding beside_table kind edge_of among if◌then◌else◌
+unfolding beside_table kind edge_of among when◌then◌else◌
 returns-2 c = c.accept2.ensures ∙ rw (c.before.after-edge.ensures, c.before.before.before.turn.given.1)
 
 returns-3 : tie.Need-returns-3

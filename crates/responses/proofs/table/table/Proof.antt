@@ -2,7 +2,7 @@
 use mathlib.Core.Path.{refl}
 use Rattle.control.specs.Turn.{kind}
 use Rattle.control.specs.Writing.{responds_at, end_or}
-use Rattle.notation.specs.Choice.{if◌then◌else◌, ◌or◌, among}
+use Rattle.notation.specs.Choice.{when◌then◌else◌, ◌or◌, among}
 use Rattle.responses.specs.Entry.{names}
 use Rattle.responses.specs.Table.{entry_at, as_entry, pattern_of}
 use Rattle.responses.proofs.Agreement.{agrees}
@@ -10,7 +10,7 @@ use Rattle.responses.proofs.table.table.Statement.{statement}
 use Rattle.responses.proofs.table.table.Tie as tie
 
 returns : tie.Need-returns
-unfolding names entry_at as_entry pattern_of responds_at end_or kind among if◌then◌else◌ ◌or◌
+unfolding names entry_at as_entry pattern_of responds_at end_or kind among when◌then◌else◌ ◌or◌
 returns c = agrees _ refl
 
 pub table_spec : {M : Type 1} → statement M

@@ -10,7 +10,7 @@ use Rattle.answer.specs.declared.ending.Ending.TheVariants.{AddressNacked, Fault
 use Rattle.control.specs.Turn.{faults}
 use Rattle.notation.proofs.Among.{none_of}
 use Rattle.notation.proofs.Cases.{cases}
-use Rattle.notation.specs.Choice.{if◌then◌else◌, among}
+use Rattle.notation.specs.Choice.{when◌then◌else◌, among}
 use Rattle.service.proofs.Blocks.{load_block}
 use Rattle.service.proofs.Sound.{KeepsSound, does-sound, acts-sound}
 use Rattle.service.specs.Act.{Work, writes, reads_all, counts, does, does_all, follows, performs}
@@ -24,12 +24,12 @@ use Rattle.service.proofs.table.work_at.Tie as tie
 -- the arms of several numbers
 nacked : (job : Job) (payload : List ℕ) (status count : ℕ) → OneOf (0x20 ∷ 0x48 ∷ []) status →
     job_table job payload status count ≡ stop_after (counts 0 ∷ []) AddressNacked
-unfolding job_table among if◌then◌else◌
+unfolding job_table among when◌then◌else◌
 nacked job payload status count (inl e) = rw e
 nacked job payload status count (inr e) = rw e
 
 fault : (job : Job) (payload : List ℕ) (status count : ℕ) → OneOf faults status → job_table job payload status count ≡ end_after [] Fault
-unfolding job_table among if◌then◌else◌
+unfolding job_table among when◌then◌else◌
 fault job payload status count (inl e) = rw e
 fault job payload status count (inr (inl e)) = rw e
 fault job payload status count (inr (inr e)) = rw e
@@ -65,18 +65,18 @@ put-control-requires-2 : tie.Need-put-control-requires-2
 put-control-requires-2 c κs = c.before.before.before.requires
 
 returns : tie.Need-returns
-unfolding job_table among if◌then◌else◌ performs does_all does follows
+unfolding job_table among when◌then◌else◌ performs does_all does follows
 returns c = rw (c.with-record.ensures, c.before.send-address.ensures, c.before.before.match.keys1)
 
 returns-2 : tie.Need-returns-2
-unfolding job_table among if◌then◌else◌ performs does_all does follows
+unfolding job_table among when◌then◌else◌ performs does_all does follows
 returns-2 c =
     let args = c.before.before.before.before.before.args in
     rw (c.with-record2.ensures, c.before.send-data.ensures, c.before.before.match.keys2)
     (sym (load_block (take args.job.n args.payload.now) (writes 3 0x41 ∷ []) args.p))
 
 returns-3 : tie.Need-returns-3
-unfolding job_table among if◌then◌else◌ performs does_all does follows
+unfolding job_table among when◌then◌else◌ performs does_all does follows
 returns-3 c = rw (c.with-record3.ensures, c.before.put-control.ensures, c.before.before.match.keys3)
 
 returns-4 : tie.Need-returns-4
@@ -89,19 +89,19 @@ returns-4 c =
     (nacked args.job args.payload.now args.status args.p.count c.before.before.match.keys4))
 
 returns-5 : tie.Need-returns-5
-unfolding job_table among if◌then◌else◌ performs does_all does follows
+unfolding job_table among when◌then◌else◌ performs does_all does follows
 returns-5 c = rw (c.stop2.ensures, c.before.note-count2.ensures, c.before.before.match.keys5)
 
 returns-6 : tie.Need-returns-6
-unfolding job_table among if◌then◌else◌ performs does_all does follows
+unfolding job_table among when◌then◌else◌ performs does_all does follows
 returns-6 c = rw (c.stop3.ensures, c.before.find-moved.ensures, c.before.before.match.keys6)
 
 returns-7 : tie.Need-returns-7
-unfolding job_table among if◌then◌else◌ performs does_all does follows
+unfolding job_table among when◌then◌else◌ performs does_all does follows
 returns-7 c = rw (c.stop4.ensures, c.before.read_all.ensures, c.before.before.note-count3.ensures, c.before.before.before.match.keys7)
 
 returns-8 : tie.Need-returns-8
-unfolding job_table among if◌then◌else◌ performs does_all does follows
+unfolding job_table among when◌then◌else◌ performs does_all does follows
 returns-8 c =
     rw (c.end.ensures, c.before.with-record4.ensures, c.before.before.put-control2.ensures, c.before.before.before.match.keys8)
 

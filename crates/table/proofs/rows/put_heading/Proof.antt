@@ -1,7 +1,7 @@
 -- `put_heading` puts the heading, which computes to the bytes in the source.
 use borrow.Author.Rules.{rules}
 use Rattle.control.specs.Flags.{weighs}
-use Rattle.notation.specs.Choice.{if◌then◌else◌}
+use Rattle.notation.specs.Choice.{when◌then◌else◌}
 use Rattle.responses.specs.Table.{pattern_of}
 use Rattle.table.specs.TableText.{heading, patterns, bits}
 use Rattle.text.specs.Text.{digit}
@@ -9,7 +9,7 @@ use Rattle.table.proofs.rows.put_heading.Statement.{statement}
 use Rattle.table.proofs.rows.put_heading.Tie as tie
 
 returns : tie.Need-returns
-unfolding heading patterns bits pattern_of weighs digit if◌then◌else◌
+unfolding heading patterns bits pattern_of weighs digit when◌then◌else◌
 returns c = c.before.before.put_word.ensures
 
 pub put_heading_spec : {M : Type 1} → statement M

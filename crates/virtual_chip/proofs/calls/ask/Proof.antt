@@ -3,7 +3,7 @@ use mathlib.Core.Path.{sym, ap, ◌∙◌}
 use borrow.Author.Rules.{rules}
 use Rattle.controller.specs.Reply.{outcome_of}
 use Rattle.controller.specs.declared.record.Controller.{Controller}
-use Rattle.notation.proofs.Cases.{if-true}
+use Rattle.notation.proofs.Cases.{when-true}
 use Rattle.requests.specs.Groups.{group_of}
 use Rattle.virtual_chip.proofs.Bytes.{record-long}
 use Rattle.virtual_chip.proofs.Replied.{accepted, refused_so, no_record_there}
@@ -26,7 +26,7 @@ returns c =
     let a = at.before.args in
     let m = a.memory.now in
     let found = sym reply.before.before.before.before.is-record.ensures ∙ reply.before.before.before.if1.true in
-    let stored = reply.before.decode.ensures ∙ sym (if-true _ _ _ found) in
+    let stored = reply.before.decode.ensures ∙ sym (when-true _ _ _ found) in
     let asked = reply.access.ensures ∙ ap (λ (d : Controller). group_of d a.kind a.place a.value) stored in
     accepted m a.kind a.place a.value _ _ (outcome_of reply.access.result) found asked value.before.refused.ensures value.value.ensures _
     c.before.before.before.before.if2.true c.before.before.store.ensures
@@ -40,7 +40,7 @@ returns-2 c =
     let a = at.before.args in
     let m = a.memory.now in
     let found = sym reply.before.before.before.before.is-record.ensures ∙ reply.before.before.before.if1.true in
-    let stored = reply.before.decode.ensures ∙ sym (if-true _ _ _ found) in
+    let stored = reply.before.decode.ensures ∙ sym (when-true _ _ _ found) in
     let asked = reply.access.ensures ∙ ap (λ (d : Controller). group_of d a.kind a.place a.value) stored in
     refused_so m a.kind a.place a.value _ _ (outcome_of reply.access.result) found asked value.before.refused.ensures value.value.ensures
     c.if2.false

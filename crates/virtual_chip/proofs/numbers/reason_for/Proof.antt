@@ -3,33 +3,33 @@ use mathlib.Core.Path.{sym, ap}
 use Prim.Native.Nat.{ℕ}
 use borrow.Author.Tests.{ne_eqb}
 use Rattle.notation.proofs.Cases.{cases}
-use Rattle.notation.specs.Choice.{if◌then◌else◌}
+use Rattle.notation.specs.Choice.{when◌then◌else◌}
 use Rattle.virtual_chip.specs.Numbers.{reason_for}
 use Rattle.virtual_chip.proofs.numbers.reason_for.Statement.{statement}
 use Rattle.virtual_chip.proofs.numbers.reason_for.Tie as tie
 
 returns : tie.Need-returns
-unfolding reason_for if◌then◌else◌
+unfolding reason_for when◌then◌else◌
 returns c = sym (ap (λ (k : ℕ). reason_for k) c.match.keys1)
 
 returns-2 : tie.Need-returns-2
-unfolding reason_for if◌then◌else◌
+unfolding reason_for when◌then◌else◌
 returns-2 c = sym (ap (λ (k : ℕ). reason_for k) c.match.keys2)
 
 returns-3 : tie.Need-returns-3
-unfolding reason_for if◌then◌else◌
+unfolding reason_for when◌then◌else◌
 returns-3 c = sym (ap (λ (k : ℕ). reason_for k) c.match.keys3)
 
 returns-4 : tie.Need-returns-4
-unfolding reason_for if◌then◌else◌
+unfolding reason_for when◌then◌else◌
 returns-4 c = sym (ap (λ (k : ℕ). reason_for k) c.match.keys4)
 
 returns-5 : tie.Need-returns-5
-unfolding reason_for if◌then◌else◌
+unfolding reason_for when◌then◌else◌
 returns-5 c = sym (ap (λ (k : ℕ). reason_for k) c.match.keys5)
 
 returns-6 : tie.Need-returns-6
-unfolding reason_for if◌then◌else◌
+unfolding reason_for when◌then◌else◌
 returns-6 c = sym (ap (λ (k : ℕ). reason_for k) c.match.keys6)
 
 returns-7 : tie.Need-returns-7

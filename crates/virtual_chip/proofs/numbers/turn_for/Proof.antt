@@ -3,61 +3,61 @@ use mathlib.Core.Path.{sym, ap}
 use Prim.Native.Nat.{ℕ}
 use borrow.Author.Tests.{ne_eqb}
 use Rattle.notation.proofs.Cases.{cases}
-use Rattle.notation.specs.Choice.{if◌then◌else◌}
+use Rattle.notation.specs.Choice.{when◌then◌else◌}
 use Rattle.virtual_chip.specs.Numbers.{turn_for}
 use Rattle.virtual_chip.proofs.numbers.turn_for.Statement.{statement}
 use Rattle.virtual_chip.proofs.numbers.turn_for.Tie as tie
 
 returns : tie.Need-returns
-unfolding turn_for if◌then◌else◌
+unfolding turn_for when◌then◌else◌
 returns c = sym (ap (λ (k : ℕ). turn_for k c.before.args.status) c.match.keys1)
 
 returns-2 : tie.Need-returns-2
-unfolding turn_for if◌then◌else◌
+unfolding turn_for when◌then◌else◌
 returns-2 c = sym (ap (λ (k : ℕ). turn_for k c.before.args.status) c.match.keys2)
 
 returns-3 : tie.Need-returns-3
-unfolding turn_for if◌then◌else◌
+unfolding turn_for when◌then◌else◌
 returns-3 c = sym (ap (λ (k : ℕ). turn_for k c.before.args.status) c.match.keys3)
 
 returns-4 : tie.Need-returns-4
-unfolding turn_for if◌then◌else◌
+unfolding turn_for when◌then◌else◌
 returns-4 c = sym (ap (λ (k : ℕ). turn_for k c.before.args.status) c.match.keys4)
 
 returns-5 : tie.Need-returns-5
-unfolding turn_for if◌then◌else◌
+unfolding turn_for when◌then◌else◌
 returns-5 c = sym (ap (λ (k : ℕ). turn_for k c.before.args.status) c.match.keys5)
 
 returns-6 : tie.Need-returns-6
-unfolding turn_for if◌then◌else◌
+unfolding turn_for when◌then◌else◌
 returns-6 c = sym (ap (λ (k : ℕ). turn_for k c.before.args.status) c.match.keys6)
 
 returns-7 : tie.Need-returns-7
-unfolding turn_for if◌then◌else◌
+unfolding turn_for when◌then◌else◌
 returns-7 c = sym (ap (λ (k : ℕ). turn_for k c.before.args.status) c.match.keys7)
 
 returns-8 : tie.Need-returns-8
-unfolding turn_for if◌then◌else◌
+unfolding turn_for when◌then◌else◌
 returns-8 c = sym (ap (λ (k : ℕ). turn_for k c.before.args.status) c.match.keys8)
 
 returns-9 : tie.Need-returns-9
-unfolding turn_for if◌then◌else◌
+unfolding turn_for when◌then◌else◌
 returns-9 c = sym (ap (λ (k : ℕ). turn_for k c.before.args.status) c.match.keys9)
 
 returns-10 : tie.Need-returns-10
-unfolding turn_for if◌then◌else◌
+unfolding turn_for when◌then◌else◌
 returns-10 c = sym (ap (λ (k : ℕ). turn_for k c.before.args.status) c.match.keys10)
 
 returns-11 : tie.Need-returns-11
-unfolding turn_for if◌then◌else◌
+unfolding turn_for when◌then◌else◌
 returns-11 c = sym (ap (λ (k : ℕ). turn_for k c.before.args.status) c.match.keys11)
 
 returns-12 : tie.Need-returns-12
-unfolding turn_for if◌then◌else◌
+unfolding turn_for when◌then◌else◌
 returns-12 c = sym (ap (λ (k : ℕ). turn_for k c.before.args.status) c.match.keys12)
 
 returns-13 : tie.Need-returns-13
-unfolding turn_for if◌then◌else◌
+unfolding turn_for when◌then◌else◌
 returns-13 c = sym (ap (λ (k : ℕ). turn_for k c.before.args.status) c.match.keys13)
 
 returns-14 : tie.Need-returns-14

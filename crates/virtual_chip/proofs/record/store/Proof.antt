@@ -5,7 +5,7 @@ use Prim.Native.Nat.{ℕ}
 use native.Mathlib.Omega.{arith}
 use borrow.Author.Tests.{ltb-false}
 use lib.ListN.{length}
-use Rattle.notation.proofs.Cases.{if-true, if-false}
+use Rattle.notation.proofs.Cases.{when-true, when-false}
 use Rattle.notation.specs.Overlay.{laid}
 use Rattle.virtual_chip.proofs.Bytes.{parts-laid}
 use Rattle.virtual_chip.specs.RecordBytes.{head_bytes, stored}
@@ -16,7 +16,7 @@ returns : tie.Need-returns
 unfolding stored laid
 returns c =
     let m = c.before.before.args.memory.now in
-    sym (ap (λ (xs : List ℕ). laid xs m) (if-true _ _ _ c.if1.true))
+    sym (ap (λ (xs : List ℕ). laid xs m) (when-true _ _ _ c.if1.true))
 
 store-buffer-requires : tie.Need-store-buffer-requires
 store-buffer-requires c κs = ltb-false _ _ c.before.before.if1.false
@@ -40,7 +40,7 @@ returns-2 c =
     c.before.before.store-head.ensures
     ∙ ap (laid (head_bytes s)) c.before.before.before.before.before.before.store-buffer.ensures
     ∙ sym (parts-laid s m)
-    ∙ sym (ap (λ (xs : List ℕ). laid xs m) (if-false _ _ _ c.before.before.before.before.before.before.before.before.before.if1.false))
+    ∙ sym (ap (λ (xs : List ℕ). laid xs m) (when-false _ _ _ c.before.before.before.before.before.before.before.before.before.if1.false))
 
 pub store_spec : {M : Type 1} → statement M
 store_spec = tie.close (tie.spec returns store-buffer-requires store-head-requires same_length returns-2)

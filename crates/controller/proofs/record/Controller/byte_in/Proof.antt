@@ -7,7 +7,7 @@ use Rattle.control.proofs.Turning.{at_turn, at_turns, except}
 use Rattle.control.specs.Turn.{data_turns, kind, called_of, receive, slave_receive}
 use Rattle.controller.specs.Transfer.{byte_in}
 use Rattle.notation.proofs.Cases.{cases}
-use Rattle.notation.specs.Choice.{among, if◌then◌else◌}
+use Rattle.notation.specs.Choice.{among, when◌then◌else◌}
 use Rattle.controller.proofs.SoundParts.{moving}
 use Rattle.controller.proofs.record.Controller.byte_in.Statement.{statement}
 use Rattle.controller.proofs.record.Controller.byte_in.Tie as tie
@@ -27,7 +27,7 @@ unfolding byte_in
 returns c = search (at_turn receive c.before.before.before.args.self.turn c.before.before.match.keys1, cases)
 
 returns-2 : tie.Need-returns-2
-unfolding byte_in kind called_of among if◌then◌else◌
+unfolding byte_in kind called_of among when◌then◌else◌
 returns-2 c = c.slave-in.ensures ∙ rw c.before.before.turn.given.1
 
 returns-3 : tie.Need-returns-3

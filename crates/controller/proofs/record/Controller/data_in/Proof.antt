@@ -3,7 +3,7 @@ use mathlib.Core.Path.{sym, ◌∙◌}
 use borrow.Author.Rules.{rules}
 use Rattle.controller.specs.Effect.{after_event}
 use Rattle.controller.specs.Transfer.{data_in}
-use Rattle.notation.proofs.Cases.{if-true, if-false}
+use Rattle.notation.proofs.Cases.{when-true, when-false}
 use Rattle.controller.proofs.record.Controller.data_in.Statement.{statement}
 use Rattle.controller.proofs.record.Controller.data_in.Tie as tie
 
@@ -12,18 +12,18 @@ unfolding data_in after_event
 returns c =
     let last = sym c.before.before.before.is_last.ensures ∙ c.before.before.if1.true in
     let acknowledged = sym c.before.acknowledges-last.ensures ∙ c.if2.true in
-    sym (if-true _ _ _ last ∙ if-true _ _ _ acknowledged)
+    sym (when-true _ _ _ last ∙ when-true _ _ _ acknowledged)
 
 returns-2 : tie.Need-returns-2
 unfolding data_in after_event
 returns-2 c =
     let last = sym c.before.before.before.is_last.ensures ∙ c.before.before.if1.true in
     let refused = sym c.before.acknowledges-last.ensures ∙ c.if2.false in
-    sym (if-true _ _ _ last ∙ if-false _ _ _ refused)
+    sym (when-true _ _ _ last ∙ when-false _ _ _ refused)
 
 returns-3 : tie.Need-returns-3
 unfolding data_in after_event
-returns-3 c = sym (if-false _ _ _ (sym c.before.is_last.ensures ∙ c.if1.false))
+returns-3 c = sym (when-false _ _ _ (sym c.before.is_last.ensures ∙ c.if1.false))
 
 pub data_in_spec : {M : Type 1} → statement M
 data_in_spec =

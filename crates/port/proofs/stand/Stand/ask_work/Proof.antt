@@ -10,7 +10,7 @@ use Rattle.answer.specs.declared.ending.Ending.TheVariants.{Fault}
 use Rattle.control.specs.Turn.{faults}
 use Rattle.notation.proofs.Among.{none_of, without}
 use Rattle.notation.proofs.Cases.{split}
-use Rattle.notation.specs.Choice.{if◌then◌else◌, among}
+use Rattle.notation.specs.Choice.{when◌then◌else◌, among}
 use Rattle.port.proofs.Totals.{at_each, data_accesses}
 use Rattle.port.specs.Ask.{ask_for}
 use Rattle.port.specs.InHand.{accesses, nth}
@@ -23,11 +23,11 @@ use Rattle.port.proofs.stand.Stand.ask_work.Statement.{statement}
 use Rattle.port.proofs.stand.Stand.ask_work.Tie as tie
 
 returns : tie.Need-returns
-unfolding job_table among if◌then◌else◌ accesses
+unfolding job_table among when◌then◌else◌ accesses
 returns c = rw (c.ask-back.ensures, eqb-true c.before.before.before.args.self.status 0x58 c.before.if1.true)
 
 returns-2 : tie.Need-returns-2
-unfolding job_table among if◌then◌else◌ accesses
+unfolding job_table among when◌then◌else◌ accesses
 returns-2 c =
     let args = c.before.before.before.before.args in
     let s = args.self in
@@ -35,15 +35,15 @@ returns-2 c =
     (sym (ap (λ (l : List Act). ask_for (nth l s.made)) (data_accesses s.count (take s.job.n args.payload.now) (writes 3 0x41 ∷ []))))
 
 returns-3 : tie.Need-returns-3
-unfolding job_table among if◌then◌else◌ accesses
+unfolding job_table among when◌then◌else◌ accesses
 returns-3 c = rw (c.ask-address.ensures, c.before.match.keys1)
 
 returns-4 : tie.Need-returns-4
-unfolding job_table among if◌then◌else◌ accesses nth ask_for
+unfolding job_table among when◌then◌else◌ accesses nth ask_for
 returns-4 c = rw c.match.keys2
 
 returns-5 : tie.Need-returns-5
-unfolding job_table among if◌then◌else◌ accesses nth ask_for
+unfolding job_table among when◌then◌else◌ accesses nth ask_for
 returns-5 c =
     let args = c.before.before.before.before.args in
     let s = args.self in
@@ -51,15 +51,15 @@ returns-5 c =
     sym (at_each asked (Write 3 0x50) (0x20 ∷ 0x28 ∷ 0x48 ∷ []) s.status c.match.keys3 (refl, (refl, (refl, tt))))
 
 returns-6 : tie.Need-returns-6
-unfolding job_table among if◌then◌else◌ accesses
+unfolding job_table among when◌then◌else◌ accesses
 returns-6 c = rw (c.ask-moved.ensures, c.before.match.keys4)
 
 returns-7 : tie.Need-returns-7
-unfolding job_table among if◌then◌else◌ accesses nth ask_for
+unfolding job_table among when◌then◌else◌ accesses nth ask_for
 returns-7 c = rw c.match.keys5
 
 returns-8 : tie.Need-returns-8
-unfolding job_table if◌then◌else◌ accesses nth ask_for
+unfolding job_table when◌then◌else◌ accesses nth ask_for
 returns-8 c =
     let s = c.before.before.before.before.args.self in
     let status = s.status in

@@ -9,7 +9,7 @@ use lib.Dec.{eqb}
 use Rattle.control.specs.Turn.{faults}
 use Rattle.notation.proofs.Among.{none_of}
 use Rattle.notation.proofs.Cases.{split}
-use Rattle.notation.specs.Choice.{if◌then◌else◌, among}
+use Rattle.notation.specs.Choice.{when◌then◌else◌, among}
 use Rattle.port.proofs.Totals.{at_each}
 use Rattle.port.specs.Hear.{concludes}
 use Rattle.port.specs.Stand.{awaiting, ended}
@@ -27,36 +27,36 @@ abbrev On : Work → Type 0
 On w = w.after ≡ goes_on
 
 returns : tie.Need-returns
-unfolding job_table among if◌then◌else◌ concludes
+unfolding job_table among when◌then◌else◌ concludes
 returns c payload count =
     let s = c.before.before.args.self in
     c.await-stop.ensures
     ∙ sym (at_each (concluded s payload count) (awaiting s Waiting 23) (0x20 ∷ 0x48 ∷ []) s.status c.before.match.keys1 (refl, (refl, tt)))
 
 returns-2 : tie.Need-returns-2
-unfolding job_table among if◌then◌else◌ concludes
+unfolding job_table among when◌then◌else◌ concludes
 returns-2 c payload count =
     let s = c.before.before.args.self in
     c.await-stop2.ensures
     ∙ sym (at_each (concluded s payload count) (awaiting s Waiting 0) (0x28 ∷ 0x58 ∷ []) s.status c.before.match.keys2 (refl, (refl, tt)))
 
 returns-3 : tie.Need-returns-3
-unfolding job_table among if◌then◌else◌ concludes
+unfolding job_table among when◌then◌else◌ concludes
 returns-3 c payload count = c.await-stop3.ensures ∙ rw c.before.match.keys3
 
 returns-4 : tie.Need-returns-4
-unfolding job_table among if◌then◌else◌ concludes
+unfolding job_table among when◌then◌else◌ concludes
 returns-4 c payload count = c.end.ensures ∙ rw c.before.match.keys4
 
 returns-5 : tie.Need-returns-5
-unfolding job_table among if◌then◌else◌ concludes
+unfolding job_table among when◌then◌else◌ concludes
 returns-5 c payload count =
     let s = c.before.before.args.self in
     c.end2.ensures
     ∙ sym (at_each (concluded s payload count) (ended s 26 0) (0x00 ∷ 0x70 ∷ 0x78 ∷ []) s.status c.before.match.keys5 (refl, (refl, (refl, tt))))
 
 returns-6 : tie.Need-returns-6
-unfolding job_table if◌then◌else◌ concludes
+unfolding job_table when◌then◌else◌ concludes
 returns-6 c payload count =
     let s = c.before.before.args.self in
     let status = s.status in

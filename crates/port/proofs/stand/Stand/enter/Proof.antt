@@ -11,7 +11,7 @@ use Rattle.address.specs.declared.number.Direction.{Direction}
 use Rattle.answer.specs.declared.ending.Ending.TheVariants.{Fault}
 use Rattle.control.specs.Turn.{faults}
 use Rattle.notation.proofs.Among.{has, among-has, passes, none_of, one_of}
-use Rattle.notation.specs.Choice.{if◌then◌else◌, among}
+use Rattle.notation.specs.Choice.{when◌then◌else◌, among}
 use Rattle.port.proofs.Totals.{Each, at_each, data_accesses}
 use Rattle.port.specs.Hear.{concludes, enters}
 use Rattle.port.specs.InHand.{reads_from, accesses, notes}
@@ -70,12 +70,12 @@ noted-at s payload x = notes s.count (job_table s.job payload x s.count).acts
 
 entered : (s : Stand) (payload ks : List ℕ) (status k : ℕ) → OneOf ks status → Each (none-at s payload) false ks → Each (noted-at s payload) k ks →
     enters s status (job_table s.job payload status s.count) ≡ at_work s Working status k
-unfolding enters if◌then◌else◌
+unfolding enters when◌then◌else◌
 entered s payload ks status k h access count =
     rw (at_each (none-at s payload) false ks status h access, at_each (noted-at s payload) k ks status h count)
 
 returns : tie.Need-returns
-unfolding job_table among if◌then◌else◌ enters accesses notes concludes
+unfolding job_table among when◌then◌else◌ enters accesses notes concludes
 returns c = λ payload.
     let s = c.before.before.before.args.self in
     let status = c.before.before.before.args.status in
@@ -85,14 +85,14 @@ returns c = λ payload.
     (at_each (λ x. job_table s.job payload x s.count) (end_after [] Fault) faults status c.before.before.match.keys1 (refl, (refl, (refl, tt)))))
 
 returns-2 : tie.Need-returns-2
-unfolding job_table among if◌then◌else◌ accesses notes
+unfolding job_table among when◌then◌else◌ accesses notes
 returns-2 c = λ payload.
     let args = c.before.before.args in
     c.at-work2.ensures
     ∙ sym (entered args.self payload nacked args.status 0 c.before.match.keys2 (refl, (refl, tt)) (refl, (refl, tt)))
 
 returns-3 : tie.Need-returns-3
-unfolding job_table among if◌then◌else◌ accesses notes
+unfolding job_table among when◌then◌else◌ accesses notes
 returns-3 c = λ payload.
     let args = c.before.before.args in
     let s = args.self in
@@ -101,7 +101,7 @@ returns-3 c = λ payload.
     (refl, (some (reads_from (read_times s.job.n) 0) (writes 3 0x50), tt)) (refl, (refl, tt)))
 
 returns-4 : tie.Need-returns-4
-unfolding job_table among if◌then◌else◌ accesses notes
+unfolding job_table among when◌then◌else◌ accesses notes
 returns-4 c = λ payload.
     let args = c.before.before.args in
     let s = args.self in

@@ -6,7 +6,7 @@ use borrow.Author.Rules.{rules}
 use native.Mathlib.Omega.{arith}
 use lib.Dec.{ltb}
 use lib.ListN.{length}
-use Rattle.notation.specs.Choice.{if◌then◌else◌}
+use Rattle.notation.specs.Choice.{when◌then◌else◌}
 use Rattle.port.proofs.Nth.{least_within, recovers-total}
 use Rattle.port.specs.Hear.{onward, hears_at, hears}
 use Rattle.port.specs.InHand.{in_hand_at}
@@ -36,19 +36,19 @@ unfolding hears hears_at
 returns c = rw c.enum_told.given.1
 
 returns-2 : tie.Need-returns-2
-unfolding hears hears_at if◌then◌else◌
+unfolding hears hears_at when◌then◌else◌
 returns-2 c = rw (c.at.ensures, c.before.before.before.enum-told2.given.1, ← c.before.before.is-idle.ensures, c.before.if1.true)
 
 returns-3 : tie.Need-returns-3
-unfolding hears hears_at if◌then◌else◌
+unfolding hears hears_at when◌then◌else◌
 returns-3 c = rw (c.end.ensures, c.before.before.before.enum-told2.given.1, ← c.before.before.is-idle.ensures, c.before.if1.false)
 
 returns-4 : tie.Need-returns-4
-unfolding hears hears_at if◌then◌else◌
+unfolding hears hears_at when◌then◌else◌
 returns-4 c = rw (c.at_first.ensures, c.before.before.enum-told3.given.1, c.before.if2.true)
 
 returns-5 : tie.Need-returns-5
-unfolding hears hears_at if◌then◌else◌
+unfolding hears hears_at when◌then◌else◌
 returns-5 c = rw (c.end2.ensures, c.before.before.enum-told3.given.1, c.before.if2.false)
 
 returns-6 : tie.Need-returns-6
@@ -87,7 +87,7 @@ returns-11 c =
     let all : length (in_hand_at s.stage s xs) ≡ c.before.least.result + 4 =
     omega (arith, ap (λ (x : Stage). length (in_hand_at x s xs)) at, recovers-total s.job.n xs) in
     c.onward2.ensures
-    ∙ sym (at_stage_lem s xs args.value Recovering at ∙ ap (λ (total : ℕ). if ltb (s.made + 1) total then advanced s else at_stage s Pausing) all)
+    ∙ sym (at_stage_lem s xs args.value Recovering at ∙ ap (λ (total : ℕ). when ltb (s.made + 1) total then advanced s else at_stage s Pausing) all)
 
 returns-12 : tie.Need-returns-12
 unfolding hears hears_at

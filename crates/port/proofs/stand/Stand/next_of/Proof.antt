@@ -2,7 +2,7 @@
 use mathlib.Core.Path.{sym, ap, ◌∙◌}
 use native.Mathlib.Omega.{arith}
 use borrow.Author.Rules.{rules}
-use Rattle.notation.proofs.Cases.{if-true, if-false, and-true, and_no_left, and_no_right}
+use Rattle.notation.proofs.Cases.{when-true, when-false, and-true, and_no_left, and_no_right}
 use Rattle.port.specs.Hear.{next_of}
 use Rattle.port.specs.Stand.{at_stage}
 use Rattle.port.specs.declared.stage.Stage.TheVariants.{Recheck}
@@ -19,21 +19,21 @@ returns c =
     let at = c.before.before in
     c.at.ensures
     ∙ ap (λ (t : Stand). at_stage t Recheck) c.before.advance.ensures
-    ∙ sym (if-true _ _ _ (and-true _ _ at.before.before.if1.true at.if2.true))
+    ∙ sym (when-true _ _ _ (and-true _ _ at.before.before.if1.true at.if2.true))
 
 advance-requires-2 : tie.Need-advance-requires-2
 advance-requires-2 c κs = let pre = c.before.before.before.before.requires in omega (arith, pre.0, pre.1)
 
 returns-2 : tie.Need-returns-2
 unfolding next_of
-returns-2 c = c.advance2.ensures ∙ sym (if-false _ _ _ (and_no_right _ _ c.before.if2.false))
+returns-2 c = c.advance2.ensures ∙ sym (when-false _ _ _ (and_no_right _ _ c.before.if2.false))
 
 advance-requires-3 : tie.Need-advance-requires-3
 advance-requires-3 c κs = let pre = c.before.before.requires in omega (arith, pre.0, pre.1)
 
 returns-3 : tie.Need-returns-3
 unfolding next_of
-returns-3 c = c.advance3.ensures ∙ sym (if-false _ _ _ (and_no_left _ _ c.before.if1.false))
+returns-3 c = c.advance3.ensures ∙ sym (when-false _ _ _ (and_no_left _ _ c.before.if1.false))
 
 pub next_of_spec : {M : Type 1} → statement M
 next_of_spec =

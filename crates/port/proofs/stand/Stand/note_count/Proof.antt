@@ -4,7 +4,7 @@ use mathlib.Core.Path.{◌≡◌, refl, sym, ◌∙◌}
 use Prim.Native.Nat.{ℕ, zero, suc}
 use borrow.Author.Tests.{eqb-true, eqb-false}
 use Rattle.answer.specs.declared.ending.Ending.TheVariants.{DataNacked}
-use Rattle.notation.specs.Choice.{if◌then◌else◌, among}
+use Rattle.notation.specs.Choice.{when◌then◌else◌, among}
 use Rattle.port.proofs.Totals.{nth-all, line-all}
 use Rattle.port.specs.InHand.{accesses, nth, count_after}
 use Rattle.service.specs.Act.{Act}
@@ -25,13 +25,13 @@ other (suc (suc zero)) count value h = refl
 other (suc (suc (suc made))) count value h = refl
 
 returns : tie.Need-returns
-unfolding job_table among if◌then◌else◌ accesses nth count_after
+unfolding job_table among when◌then◌else◌ accesses nth count_after
 returns c payload =
     let s = c.before.before.before.before.args in
     rw (eqb-true s.self.status 0x30 c.before.before.if1.true, eqb-true s.self.made 1 c.if2.true)
 
 returns-2 : tie.Need-returns-2
-unfolding job_table among if◌then◌else◌ accesses
+unfolding job_table among when◌then◌else◌ accesses
 returns-2 c payload =
     let s = c.before.before.before.before.args in
     let kept = other s.self.made s.self.count s.value (eqb-false s.self.made 1 c.if2.false) in

@@ -9,8 +9,8 @@ use borrow.Author.Tests.{eqb-true}
 use denote.Enum.Declared.{tag_of}
 use lib.Dec.{eqb}
 use Rattle.notation.proofs.Among.{passes}
-use Rattle.notation.proofs.Cases.{if-false}
-use Rattle.notation.specs.Choice.{if◌then◌else◌, among}
+use Rattle.notation.proofs.Cases.{when-false}
+use Rattle.notation.specs.Choice.{when◌then◌else◌, among}
 use Rattle.port.proofs.Totals.{nth-before, nth_last, length-reads, read_at, nth-all, line-all}
 use Rattle.port.specs.contracts.stage.Stage.{the_type}
 use Rattle.port.specs.Hear.{noted_at}
@@ -52,7 +52,7 @@ tag_number Pausing = refl
 tag_number Recheck = refl
 
 returns : tie.Need-returns
-unfolding noted_at job_table among if◌then◌else◌ in_hand_at accesses stage_number
+unfolding noted_at job_table among when◌then◌else◌ in_hand_at accesses stage_number
 returns c payload =
     let at = c.before.before.before in
     let s = at.before.before.before.before.args.self in
@@ -60,7 +60,7 @@ returns c payload =
     (sym (read _ s.made (rw c.before.times.ensures at c.if2.true)))
 
 returns-2 : tie.Need-returns-2
-unfolding noted_at job_table among if◌then◌else◌ in_hand_at accesses stage_number
+unfolding noted_at job_table among when◌then◌else◌ in_hand_at accesses stage_number
 returns-2 c payload =
     let at = c.before.before.before in
     let s = at.before.before.before.before.args.self in
@@ -68,7 +68,7 @@ returns-2 c payload =
     (sym (past _ s.made (rw c.before.times.ensures at c.if2.false)))
 
 returns-3 : tie.Need-returns-3
-unfolding noted_at if◌then◌else◌ in_hand_at stage_number place_of
+unfolding noted_at when◌then◌else◌ in_hand_at stage_number place_of
 returns-3 c payload =
     let s = c.before.before.before.before.args.self in
     let all =
@@ -81,7 +81,7 @@ unfolding noted_at
 returns-4 c payload =
     let stage = c.before.args.self.stage in
     let others = passes (λ k. eqb k 7) false (0 ∷ 1 ∷ 2 ∷ 3 ∷ 4 ∷ 5 ∷ 6 ∷ 8 ∷ 9 ∷ 10 ∷ []) (tag_of the_type stage) c.match.keys2 tt in
-    sym (if-false _ _ _ (ap (λ (k : ℕ). eqb k 7) (sym (tag_number stage)) ∙ others))
+    sym (when-false _ _ _ (ap (λ (k : ℕ). eqb k 7) (sym (tag_number stage)) ∙ others))
 
 pub place_spec : {M : Type 1} → statement M
 place_spec =

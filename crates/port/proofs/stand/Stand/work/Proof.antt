@@ -7,8 +7,8 @@ use borrow.Author.Tests.{ltb-true}
 use native.Mathlib.Omega.{arith}
 use lib.Dec.{ltb}
 use lib.ListN.{length}
-use Rattle.notation.proofs.Cases.{if-true, if-false}
-use Rattle.notation.specs.Choice.{if◌then◌else◌}
+use Rattle.notation.proofs.Cases.{when-true, when-false}
+use Rattle.notation.specs.Choice.{when◌then◌else◌}
 use Rattle.port.proofs.Nth.{line-fits}
 use Rattle.port.specs.Hear.{concludes, next_of, hears_at}
 use Rattle.port.specs.InHand.{accesses, line, in_hand_at, nth, count_after}
@@ -27,7 +27,7 @@ abbrev noted : Stand → List ℕ → ℕ → Stand
 noted s payload value = with_count s (count_after (nth (of_line s payload) s.made) s.count value)
 
 worked : (s : Stand) (payload : List ℕ) (value : ℕ) → s.stage ≡ Working → hears_at Working s payload value
-    ≡ (if ltb (s.made + 1) (length (of_line s payload)) then next_of (noted s payload value) (length (of_line s payload))
+    ≡ (when ltb (s.made + 1) (length (of_line s payload)) then next_of (noted s payload value) (length (of_line s payload))
     else concludes (line s payload).after (noted s payload value))
 unfolding hears_at in_hand_at
 worked s payload value e = rw e
@@ -53,7 +53,7 @@ returns c =
     (c.before.before.with-count.ensures ∙ ap (with_count s) (c.before.before.before.note-count.ensures xs))
     ∙ ap (λ (total : ℕ). next_of (noted s xs args.value) total) counted.work-total.ensures
     ∙ sym (worked s xs args.value counted.before.before.requires.1
-    ∙ if-true _ _ _ (rw counted.work-total.ensures at c.before.if1.true))
+    ∙ when-true _ _ _ (rw counted.work-total.ensures at c.before.if1.true))
 
 returns-2 : tie.Need-returns-2
 returns-2 c =
@@ -65,7 +65,7 @@ returns-2 c =
     ∙ ap (λ (t : Stand). concludes (job_table t.job xs t.status s.count).after t)
     (c.before.before.with-count.ensures ∙ ap (with_count s) (c.before.before.before.note-count.ensures xs))
     ∙ sym (worked s xs args.value counted.before.before.requires.1
-    ∙ if-false _ _ _ (rw counted.work-total.ensures at c.before.if1.false))
+    ∙ when-false _ _ _ (rw counted.work-total.ensures at c.before.if1.false))
 
 pub work_spec : {M : Type 1} → statement M
 work_spec =

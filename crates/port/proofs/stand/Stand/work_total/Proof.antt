@@ -11,7 +11,7 @@ use Rattle.answer.specs.declared.ending.Ending.TheVariants.{Fault}
 use Rattle.control.specs.Turn.{faults}
 use Rattle.notation.proofs.Among.{none_of, without}
 use Rattle.notation.proofs.Cases.{split}
-use Rattle.notation.specs.Choice.{if◌then◌else◌, among}
+use Rattle.notation.specs.Choice.{when◌then◌else◌, among}
 use Rattle.port.proofs.Totals.{at_each, length-reads, least_fits, times_fit, data_total}
 use Rattle.port.specs.InHand.{accesses}
 use Rattle.service.specs.Act.{Work}
@@ -27,7 +27,7 @@ add-result : tie.Need-overflow-add-result
 add-result c = omega (arith, c.times.ensures, times_fit c.before.before.before.args.self.job.n)
 
 returns : tie.Need-returns
-unfolding job_table among if◌then◌else◌ accesses
+unfolding job_table among when◌then◌else◌ accesses
 returns c =
     let s = c.before.before.before.args.self in
     rw (eqb-true s.status 0x58 c.before.if1.true, length-append, length-reads, c.times.ensures)
@@ -38,29 +38,29 @@ add-result-2 c =
     omega (arith, c.least.ensures, least_fits here.args.self.job.n (length here.args.payload.now), here.well-formed)
 
 returns-2 : tie.Need-returns-2
-unfolding job_table among if◌then◌else◌ accesses
+unfolding job_table among when◌then◌else◌ accesses
 returns-2 c =
     let s = c.before.before.before.before.args in
     rw (eqb-true s.self.status 0x18 c.before.if2.true, c.least.ensures)
     (sym (data_total s.self.count s.self.job.n s.payload.now))
 
 returns-3 : tie.Need-returns-3
-unfolding job_table among if◌then◌else◌ accesses
+unfolding job_table among when◌then◌else◌ accesses
 returns-3 c = rw c.match.keys1
 
 returns-4 : tie.Need-returns-4
-unfolding job_table among if◌then◌else◌ accesses
+unfolding job_table among when◌then◌else◌ accesses
 returns-4 c =
     let s = c.before.before.before.before.args in
     sym (at_each (λ (status : ℕ). length (accesses s.self.count (job_table s.self.job s.payload.now status s.self.count).acts)) 1
     single s.self.status c.match.keys2 (refl, (refl, (refl, (refl, (refl, tt))))))
 
 returns-5 : tie.Need-returns-5
-unfolding job_table among if◌then◌else◌ accesses
+unfolding job_table among when◌then◌else◌ accesses
 returns-5 c = rw c.match.keys3
 
 returns-6 : tie.Need-returns-6
-unfolding job_table accesses if◌then◌else◌
+unfolding job_table accesses when◌then◌else◌
 returns-6 c =
     let s = c.before.before.before.before.args in
     let status = s.self.status in
