@@ -80,10 +80,11 @@ def renamed(found):
     return table, twice
 
 
-def turned_code(code, table, fields):
+def turned_code(code, table, fields, modules):
     def new(it):
-        after_dot = it.start() > 0 and code[it.start() - 1] == "."
-        return table.get(it[0], it[0]) if not after_dot or it[0] in fields else it[0]
+        before = code[: it.start()]
+        of_module = any(before.endswith(m + ".") for m in modules)
+        return table.get(it[0], it[0]) if not before.endswith(".") or of_module or it[0] in fields else it[0]
 
     return re.sub(NAME, new, code)
 
@@ -104,7 +105,9 @@ def turned_comment(text, table):
 
 def turned(path, table, fields):
     lines = []
-    for line in read(path).split("\n"):
+    text = read(path)
+    modules = set(re.findall(r"(?m)^use \S+ as (\w+)$", text)) - {"tie"}
+    for line in text.split("\n"):
         if path.endswith(".rt"):
             camel = {old: new for old, new in table.items() if CAMEL.match(old)}
             line = re.sub(r"(?<![\w'-])[a-z][a-z0-9]*[A-Z]\w*'?", lambda it: camel.get(it[0], it[0]), line)
@@ -112,7 +115,7 @@ def turned(path, table, fields):
             continue
         cut = re.search(r"(^|\s)--(\s|$)", line)
         at = cut.start() if cut else len(line)
-        lines.append(chosen(turned_code(line[:at], table, fields)) + turned_comment(line[at:], table))
+        lines.append(chosen(turned_code(line[:at], table, fields, modules)) + turned_comment(line[at:], table))
     return "\n".join(lines)
 
 

@@ -164,7 +164,7 @@ item_quiet (recovery settings) s b z = by_settings (bad_settings settings) refl
   where
     by_settings : (x : Bool) → bad_settings settings ≡ x → aa_of (leaves (recovery settings) s).chip ≡ false
     by_settings true e = ap aa_of (back.declines settings s e).same ∙ z
-    by_settings false e = (back.recovers-so settings s e b.still-sound).back.quiet
+    by_settings false e = (back.recovers_so settings s e b.still-sound).back.quiet
 
 quiet-after : (items : List Item) (s : At) → Between s → aa_of s.chip ≡ false → QuietAfter items s
 quiet-after [] s b z = tt
@@ -173,4 +173,4 @@ quiet-after (x ∷ items) s b z = let q = item_quiet x s b z in (q, quiet-after 
 pub quiet-between : QuietBetween
 unfolding leaves
 quiet-between settings items s sc l b =
-    let q = (back.recovers-so settings s b sc).back.quiet in (q, quiet-after items _ (recovered-between settings s sc l b) q)
+    let q = (back.recovers_so settings s b sc).back.quiet in (q, quiet-after items _ (recovered-between settings s sc l b) q)
