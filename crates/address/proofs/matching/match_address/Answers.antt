@@ -2,23 +2,17 @@
 use mathlib.Core.Bool.{Bool}
 use mathlib.Core.Path.{◌≡◌}
 use Prim.Native.Nat.{ℕ}
-use borrow.Author.Rules.{rules}
 use Rattle.address.specs.Matching.{call_of, match_of}
 use Rattle.address.specs.Number.{address_of}
-use Rattle.address.specs.declared.matching.AddressMatch.{AddressMatch}
 use Rattle.address.specs.declared.matching.Match.{Match}
 use Rattle.address.specs.declared.number.Address.{Address}
 use Rattle.address.specs.declared.number.AddressByte.{AddressByte}
-use Rattle.address.proofs.matching.match_address.Statement.{statement}
-use Rattle.address.proofs.matching.match_address.Tie as tie
+use Rattle.address.proofs.matching.match_address.Goals as goal
 
 both-parts : (i2cadr : ℕ) (aa : Bool) (byte : AddressByte) (m : Match) (a : Address) → m ≡ call_of i2cadr aa byte → a ≡ address_of byte →
     (record { call = m; address = a }) ≡ match_of i2cadr aa byte
 unfolding match_of
 both-parts i2cadr aa byte m a e f = rw (e, f)
 
-returns : tie.Need-returns
+pub returns : goal.returns
 returns c = search both-parts
-
-pub match_address_spec : {M : Type 1} → statement M
-match_address_spec = tie.close (tie.spec (λ c κs. search rules) (λ c κs. search rules) returns)

@@ -14,8 +14,7 @@ use Rattle.address.specs.declared.number.AddressByte.{AddressByte}
 use Rattle.address.specs.declared.number.Direction.TheVariants.{Write, Read}
 use Rattle.notation.proofs.Cases.{calls, cases}
 use Rattle.notation.specs.Choice.{when◌then◌else◌}
-use Rattle.address.proofs.matching.match_call.Statement.{statement}
-use Rattle.address.proofs.matching.match_call.Tie as tie
+use Rattle.address.proofs.matching.match_call.Goals as goal
 
 -- what a key answers
 keyed : ℕ → Match
@@ -47,36 +46,27 @@ key_fits : (own : Bool) → 2 * bool_byte (not own) < 3
 key_fits true = omega arith
 key_fits false = omega arith
 
-returns : tie.Need-returns
+pub returns-then-calls_all : goal.returns-then-calls_all
 unfolding call_of
-returns c = search calls
+returns-then-calls_all c = search calls
 
-returns-2 : tie.Need-returns-2
+pub overflow_mul-key : goal.overflow_mul-key
+overflow_mul-key c = record { fits = omega (arith, key_fits c.calls_own.result) }
+
+pub overflow_add-key : goal.overflow_add-key
+overflow_add-key c = record { fits = omega (arith, key_fits c.calls_own.result) }
+
+pub returns-in-0 : goal.returns-in-0
 unfolding keyed when◌then◌else◌
-returns-2 c = sym (ap keyed c.match.keys1) ∙ search matched
+returns-in-0 c = sym (ap keyed c.in-0.is) ∙ search matched
 
-returns-3 : tie.Need-returns-3
+pub returns-in-1 : goal.returns-in-1
 unfolding keyed when◌then◌else◌
-returns-3 c = sym (ap keyed c.match.keys2) ∙ search matched
+returns-in-1 c = sym (ap keyed c.in-1.is) ∙ search matched
 
-returns-4 : tie.Need-returns-4
-returns-4 c = sym (keyed-none _ c.match.rest.0.1 c.match.rest.1) ∙ search matched
+pub returns-in_default : goal.returns-in_default
+returns-in_default c = sym (keyed-none _ c.in_default.in_default-own.rest.0.1 c.in_default.in_default-own.rest.1) ∙ search matched
 
-returns-5 : tie.Need-returns-5
+pub returns : goal.returns
 unfolding call_of
-returns-5 c = search cases
-
-pub match_call_spec : {M : Type 1} → statement M
-match_call_spec =
-    tie.close
-    (tie.spec
-    (λ c κs. search rules)
-    returns
-    (λ c κs. search rules)
-    (λ c. search rules)
-    (λ c. record { fits = omega (arith, key_fits c.calls-own.result) })
-    (λ c. record { fits = omega (arith, key_fits c.calls-own.result) })
-    returns-2
-    returns-3
-    returns-4
-    returns-5)
+returns c = search cases

@@ -8,8 +8,7 @@ use borrow.Author.Tests.{le-ltb, ne_eqb}
 use Rattle.address.specs.Matching.{calls_all}
 use Rattle.notation.proofs.Cases.{cases}
 use Rattle.notation.specs.Choice.{◌and◌}
-use Rattle.address.proofs.matching.calls_all.Statement.{statement}
-use Rattle.address.proofs.matching.calls_all.Tie as tie
+use Rattle.address.proofs.matching.calls_all.Goals as goal
 
 below-bit : (byte bit : ℕ) → bit < 2 → ltb byte bit ≡ (eqb bit 1 and eqb byte 0)
 unfolding ◌and◌
@@ -18,9 +17,6 @@ below-bit zero (suc zero) h = refl
 below-bit (suc byte) (suc zero) h = le-ltb (suc byte) 1 (omega arith) ∙ sym (ne_eqb (suc byte) 0 (λ e. omega (arith, e)))
 below-bit byte (suc (suc bit)) h = absurd (omega (arith, h))
 
-returns : tie.Need-returns
+pub returns : goal.returns
 unfolding calls_all
-returns c = below-bit c.before.args.byte.0 (c.before.args.i2cadr % 2) (search rules)
-
-pub calls_all_spec : {M : Type 1} → statement M
-calls_all_spec = tie.close (tie.spec returns)
+returns c = below-bit c.args.byte.0 (c.args.i2cadr % 2) (search rules)
