@@ -1,0 +1,16 @@
+-- `keep` is `keeps`: what is known at each return settles the tests of the definition.
+use mathlib.Core.List.{[], ◌∷◌}
+use Rattle.control.proofs.Turning.{at_turn, at_turns, except}
+use Rattle.control.specs.Turn.{stopping}
+use Rattle.controller.specs.I2ccon.{keeps}
+use Rattle.notation.proofs.Cases.{cases}
+use borrow.Enum.Refused.{opened}
+use Rattle.controller.proofs.i2ccon.keep.Goals as goal
+
+pub returns-in-Stopping : goal.returns-in-Stopping
+unfolding keeps
+returns-in-Stopping c = search (at_turn stopping c.args.turn c.in-Stopping.in-Stopping-own.keys1, cases)
+
+pub returns-in_default : goal.returns-in_default
+unfolding keeps
+returns-in_default c = search (at_turns (except (stopping ∷ [])) c.args.turn (opened c.in_default.in_default-own.keys2), cases)

@@ -1,0 +1,12 @@
+-- `acknowledges_last` is `acknowledges_last`: what is known at each return settles the tests of the definition.
+use Rattle.controller.specs.Transfer.{acknowledges_last}
+use Rattle.notation.proofs.Cases.{cases}
+use Rattle.controller.proofs.record.Controller.acknowledges_last.Goals as goal
+
+pub returns-then-self : goal.returns-then-self
+unfolding acknowledges_last
+returns-then-self c = search cases
+
+pub returns-else-self : goal.returns-else-self
+unfolding acknowledges_last
+returns-else-self c = search cases
