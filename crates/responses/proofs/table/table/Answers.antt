@@ -6,12 +6,8 @@ use Rattle.notation.specs.Choice.{when◌then◌else◌, ◌or◌, among}
 use Rattle.responses.specs.Entry.{names}
 use Rattle.responses.specs.Table.{entry_at, as_entry, pattern_of}
 use Rattle.responses.proofs.Agreement.{agrees}
-use Rattle.responses.proofs.table.table.Statement.{statement}
-use Rattle.responses.proofs.table.table.Tie as tie
+use Rattle.responses.proofs.table.table.Goals as goal
 
-returns : tie.Need-returns
+pub returns : goal.returns
 unfolding names entry_at as_entry pattern_of responds_at end_or kind among when◌then◌else◌ ◌or◌
 returns c = agrees _ refl
-
-pub table_spec : {M : Type 1} → statement M
-table_spec = tie.close (tie.spec returns)
