@@ -1,5 +1,4 @@
 -- `read_block` is `after_reads` and `values_read`: the reads that are left, of the record so far, always give what all of them give.
-use mathlib.Core.Logic.{⊎_elim}
 use mathlib.Core.Path.{◌≡◌, refl, sym, ap, ◌∙◌}
 use Prim.Native.Nat.{ℕ, ◌<◌, ◌-◌, ◌+◌}
 use native.Mathlib.Nat.{sub-zero}
@@ -12,22 +11,22 @@ use Rattle.block.proofs.Rounds.{read_one, read_done, lay_all, lay_one, lay_done}
 use Rattle.notation.proofs.Overlay.{at_start}
 use Rattle.notation.specs.Overlay.{laid_at}
 use Rattle.block.proofs.read_block.Goals as goal
-use Rattle.block.proofs.read_block.Goals.{Joined-hand-end}
+use Rattle.block.proofs.read_block.Goals.{Joined-hand-end, then-hand-end, else-hand-end}
 
 -- where the two ways meet: the record and byte are those of one read
 joined : (c : Joined-hand-end) →
     Gives (read_of c.loop-i.next 1) c.if-hand-end.next c.if-hand-end.byte × (reach_of c.if-hand-end.next ≡ reach_of c.loop-i.next)
 joined c =
     let l = c.loop-i in
-    ⊎_elim
-    (λ w.
-    let below : l.next.hand < reach_of l.next = omega (arith, l.invariant.2, w.0.taken) in
-    let g = read-inside l.next below in
-    ((g.0 ∙ sym w.2, g.1 ∙ sym w.3), ap reach_of w.2 ∙ reach_stays l.next l.next.buffer l.next.armed below))
-    (λ w.
-    let g = read-outside l.next (omega (arith, l.invariant.2, w.0.left)) in
-    ((g.0 ∙ sym w.1, g.1 ∙ sym w.2), ap reach_of w.1))
-    c.if-hand-end.branch
+    elim c.if-hand-end.branch [
+      then-hand-end w ↦
+        let below : l.next.hand < reach_of l.next = omega (arith, l.invariant.2, w.if-hand-end.true) in
+        let g = read-inside l.next below in
+        ((g.0 ∙ sym w.next-is, g.1 ∙ sym w.byte-is), ap reach_of w.next-is ∙ reach_stays l.next l.next.buffer l.next.armed below)
+    | else-hand-end w ↦
+        let g = read-outside l.next (omega (arith, l.invariant.2, w.if-hand-end.false)) in
+        ((g.0 ∙ sym w.next-is, g.1 ∙ sym w.byte-is), ap reach_of w.next-is)
+    ]
 
 pub loop-i-init : goal.loop-i-init
 loop-i-init c =
