@@ -1,0 +1,7 @@
+-- `fresh_enabled` is `fresh_enabled`, worked out.
+use mathlib.Core.Path.{sym}
+use Rattle.requests.proofs.FreshEnabled.{fresh_enabled_is}
+use Rattle.requests.proofs.jobs.fresh_enabled.Goals as goal
+
+pub returns : goal.returns
+returns c = sym fresh_enabled_is
