@@ -26,36 +26,36 @@ On w = w.after ≡ goes_on
 
 pub returns-in-32 : goal.returns-in-32
 unfolding job_table among when◌then◌else◌ concludes
-returns-in-32 c =
+returns-in-32 c payload count =
     let s = c.args.self in
     c.await_stop.ensures
     ∙ sym (at_each (concluded s payload count) (awaiting s Waiting 23) (0x20 ∷ 0x48 ∷ []) s.status c.in-32.is (refl, (refl, tt)))
 
 pub returns-in-40 : goal.returns-in-40
 unfolding job_table among when◌then◌else◌ concludes
-returns-in-40 c =
+returns-in-40 c payload count =
     let s = c.args.self in
     c.await_stop-in-40.ensures
     ∙ sym (at_each (concluded s payload count) (awaiting s Waiting 0) (0x28 ∷ 0x58 ∷ []) s.status c.in-40.is (refl, (refl, tt)))
 
 pub returns-in-48 : goal.returns-in-48
 unfolding job_table among when◌then◌else◌ concludes
-returns-in-48 c = c.await_stop-in-48.ensures ∙ rw c.in-48.is
+returns-in-48 c payload count = c.await_stop-in-48.ensures ∙ rw c.in-48.is
 
 pub returns-in-56 : goal.returns-in-56
 unfolding job_table among when◌then◌else◌ concludes
-returns-in-56 c = c.end.ensures ∙ rw c.in-56.is
+returns-in-56 c payload count = c.end.ensures ∙ rw c.in-56.is
 
 pub returns-in-0 : goal.returns-in-0
 unfolding job_table among when◌then◌else◌ concludes
-returns-in-0 c =
+returns-in-0 c payload count =
     let s = c.args.self in
     c.end-in-0.ensures
     ∙ sym (at_each (concluded s payload count) (ended s 26 0) (0x00 ∷ 0x70 ∷ 0x78 ∷ []) s.status c.in-0.is (refl, (refl, (refl, tt))))
 
 pub returns-in_default : goal.returns-in_default
 unfolding job_table when◌then◌else◌ concludes
-returns-in_default c =
+returns-in_default c payload count =
     let s = c.args.self in
     let status = s.status in
     let rest = c.in_default.in_default-own.rest in

@@ -8,20 +8,17 @@ use Rattle.port.proofs.stand.Stand.hand_up.Goals as goal
 pub returns-then-done : goal.returns-then-done
 unfolding take_of when◌then◌else◌
 returns-then-done c =
-    let all =
-        rw (← c.number-over.ensures, c.if-over.true-raw, c.if-done.true-raw) c.hand_up_done.ensures in
-    record { answer = all.0; handed = all.1 }
+    rw (← c.number-over.ensures, c.if-over.true-raw, c.if-done.true-raw)
+    (record { answer = c.hand_up_done.ensures.answer; handed = c.hand_up_done.ensures.handed })
 
 pub returns-then-over : goal.returns-then-over
 unfolding take_of when◌then◌else◌ laid
 returns-then-over c =
-    let all =
-        rw (← c.number-over.ensures, c.if-over.true-raw, c.if-done.false-raw) (refl, refl) in
-    record { answer = all.0; handed = all.1 }
+    rw (← c.number-over.ensures, c.if-over.true-raw, c.if-done.false-raw)
+    (record { answer = refl; handed = refl })
 
 pub returns : goal.returns
 unfolding take_of when◌then◌else◌ laid
 returns c =
-    let all =
-        rw (← c.number-over.ensures, c.if-over.false-raw) (refl, refl) in
-    record { answer = all.0; handed = all.1 }
+    rw (← c.number-over.ensures, c.if-over.false-raw)
+    (record { answer = refl; handed = refl })

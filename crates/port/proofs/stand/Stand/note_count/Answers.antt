@@ -25,20 +25,20 @@ other (suc (suc (suc made))) count value h = refl
 
 pub returns-then-second : goal.returns-then-second
 unfolding job_table among when◌then◌else◌ accesses nth count_after
-returns-then-second c =
+returns-then-second c payload =
     let s = c.args in
     rw (eqb-true s.self.status 0x30 c.if-moved.true-raw, eqb-true s.self.made 1 c.if-second.true-raw)
 
 pub returns-else-second : goal.returns-else-second
 unfolding job_table among when◌then◌else◌ accesses
-returns-else-second c =
+returns-else-second c payload =
     let s = c.args in
     let kept = other s.self.made s.self.count s.value (eqb-false s.self.made 1 c.if-second.false-raw) in
     rw (eqb-true s.self.status 0x30 c.if-moved.true-raw, kept)
 
 pub returns-else-moved : goal.returns-else-moved
 unfolding count_after
-returns-else-moved c =
+returns-else-moved c payload =
     let s = c.args in
     let keeps = Keeps s.self.count s.value in
     let all =

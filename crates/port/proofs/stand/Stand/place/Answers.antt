@@ -52,21 +52,21 @@ tag_number Recheck = refl
 
 pub returns-then-made-times : goal.returns-then-made-times
 unfolding noted_at job_table among when◌then◌else◌ in_hand_at accesses stage_number
-returns-then-made-times c =
+returns-then-made-times c payload =
     let s = c.args.self in
     rw (c.in-Working.is, eqb-true s.status 0x58 c.if-reading.true-raw)
-    (sym (read _ s.made (rw c.times.ensures (goal.at.returns-then-made-times c).Then-reading c.if-made-times.true)))
+    (sym (read _ s.made (rw c.times.ensures at c.if-made-times.true)))
 
 pub returns-else-made-times : goal.returns-else-made-times
 unfolding noted_at job_table among when◌then◌else◌ in_hand_at accesses stage_number
-returns-else-made-times c =
+returns-else-made-times c payload =
     let s = c.args.self in
     rw (c.in-Working.is, eqb-true s.status 0x58 c.if-reading.true-raw)
-    (sym (past _ s.made (rw c.times.ensures (goal.at.returns-else-made-times c).Then-reading c.if-made-times.false)))
+    (sym (past _ s.made (rw c.times.ensures at c.if-made-times.false)))
 
 pub returns-else-reading : goal.returns-else-reading
 unfolding noted_at when◌then◌else◌ in_hand_at stage_number place_of
-returns-else-reading c =
+returns-else-reading c payload =
     let s = c.args.self in
     let all =
     line-all Unnoted s.job payload s.status s.count (λ _ _. refl) (λ _. refl)
@@ -75,7 +75,7 @@ returns-else-reading c =
 
 pub returns-in_default : goal.returns-in_default
 unfolding noted_at
-returns-in_default c =
+returns-in_default c payload =
     let stage = c.args.self.stage in
     let others = passes (λ k. eqb k 7) false (0 ∷ 1 ∷ 2 ∷ 3 ∷ 4 ∷ 5 ∷ 6 ∷ 8 ∷ 9 ∷ 10 ∷ []) (tag_of the_type stage) (opened c.in_default.in_default-own.keys2) tt in
     sym (when-false _ _ _ (ap (λ (k : ℕ). eqb k 7) (sym (tag_number stage)) ∙ others))
