@@ -11,7 +11,7 @@ use Rattle.console.proofs.report.put_beside.Goals as goal
 pub returns-then-refused : goal.returns-then-refused
 unfolding beside
 returns-then-refused c =
-    let test = ap (λ (n : ℕ). eqb n 28) (sym c.number.ensures) ∙ c.if1.true in
+    let test = ap (λ (n : ℕ). eqb n 28) (sym c.number-refused.ensures) ∙ c.if-refused.true-raw in
     let refusal = said _ _ _ _ (ap (decimal_of 20) c.beside.ensures) c.put_decimal.ensures in
     said _ _ _ _ (sym (when-true _ _ _ test)) (chain _ _ _ _ c.put_word-next.ensures refusal)
 

@@ -6,4 +6,4 @@ use Rattle.console.proofs.report.put_bytes_line.Goals as goal
 pub returns : goal.returns
 unfolding bytes_line
 returns c =
-    chain _ _ _ _ c.put_word.ensures (chain _ _ _ _ c.put-listed.ensures c.put_word.ensures)
+    chain _ _ _ _ c.put_word-next.ensures (chain _ _ _ _ c.put_listed-next.ensures c.put_word.ensures)

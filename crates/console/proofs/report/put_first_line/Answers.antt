@@ -6,17 +6,14 @@ use Rattle.driver.specs.Run.{result_of}
 use Rattle.text.proofs.Holds.{said, chain, same_room}
 use Rattle.console.proofs.report.put_first_line.Goals as goal
 
-pub shape_of-text : goal.shape_of-text
-shape_of-text c = same_room _ _ _ (returns c)
-
 pub returns : goal.returns
 unfolding first_line result_of
 returns c =
     let number = ap (decimal_of 20) c.number.ensures in
-    chain _ _ _ _ c.put_word.ensures (
-    chain _ _ _ _ (said _ _ _ _ number c.put-decimal.ensures) (
-    chain _ _ _ _ c.put-word2.ensures (
-    chain _ _ _ _ c.put-decimal2.ensures (
-    chain _ _ _ _ c.put-word3.ensures (
-    chain _ _ _ _ c.put-decimal3.ensures (
-    chain _ _ _ _ c.put-beside.ensures c.put_word.ensures))))))
+    chain _ _ _ _ c.put_word-next.ensures (
+    chain _ _ _ _ (said _ _ _ _ number c.put_decimal-next.ensures) (
+    chain _ _ _ _ c.put_word-next-2.ensures (
+    chain _ _ _ _ c.put_decimal-next-2.ensures (
+    chain _ _ _ _ c.put_word-next-3.ensures (
+    chain _ _ _ _ c.put_decimal-next-3.ensures (
+    chain _ _ _ _ c.put_beside-next.ensures c.put_word.ensures))))))

@@ -6,5 +6,5 @@ use Rattle.console.proofs.report.put_job.Goals as goal
 pub returns : goal.returns
 unfolding job_text
 returns c =
-    chain _ _ _ _ c.put-first-line.ensures (
-    chain _ _ _ _ c.put-bytes-line.ensures c.put_bytes_line.ensures)
+    chain _ _ _ _ c.put_first_line-next.ensures (
+    chain _ _ _ _ c.put_bytes_line-next.ensures c.put_bytes_line.ensures)

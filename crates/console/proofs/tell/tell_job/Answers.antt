@@ -1,6 +1,8 @@
 -- `tell_job` runs the job, and puts its lines: what it prints of the two buffers is what the job sent and handed up.
 use mathlib.Core.Path.{sym, ap}
 use native.Mathlib.Omega.{arith}
+use Prim.Native.Nat.{◌≤◌}
+use lib.ListN.{length}
 use lib.Seq.{length-take-le}
 use Rattle.console.proofs.Printed.{sent-fits, sent-bytes, handed-fits, handed-bytes, same_text}
 use Rattle.driver.specs.Run.{Result, result_of}
@@ -16,7 +18,13 @@ slice_bounds-out-end c =
     omega (arith, sent-fits s.job s.payload.now s.script.now s.c places ran.result told.result told.number, ran.auto)
 
 pub slice_bounds-put_job-end : goal.slice_bounds-put_job-end
-slice_bounds-put_job-end c = sym (length-take-le _ _ (slice_bounds-out-end c.before.before))
+slice_bounds-put_job-end c =
+    let s = c.args in
+    let ran = c.run_job-result in
+    let places = c.well_formed.0.1.1.0.1.0.1 in
+    let fits : ran.result.sent ≤ length ran.new.out =
+    omega (arith, sent-fits s.job s.payload.now s.script.now s.c places ran.result ran.ensures.result ran.ensures.number, ran.auto) in
+    sym (length-take-le _ _ fits)
 
 pub slice_bounds-destination-end : goal.slice_bounds-destination-end
 slice_bounds-destination-end c =
@@ -29,7 +37,14 @@ slice_bounds-destination-end c =
     omega (arith, fits, ran.auto)
 
 pub slice_bounds-put_job-end-2 : goal.slice_bounds-put_job-end-2
-slice_bounds-put_job-end-2 c = sym (length-take-le _ _ (slice_bounds-destination-end c.before.before))
+slice_bounds-put_job-end-2 c =
+    let s = c.args in
+    let ran = c.run_job-result in
+    let places = c.well_formed.0.1.1.0.1.0.1 in
+    let counted = c.count_handed-handed.ensures in
+    let handed = handed-fits s.job s.payload.now s.script.now s.c places ran.result ran.ensures.result ran.ensures.number _ counted in
+    let fits : c.count_handed-handed.result ≤ length ran.new.destination = omega (arith, handed, ran.auto) in
+    sym (length-take-le _ _ fits)
 
 pub returns : goal.returns
 unfolding result_of

@@ -5,17 +5,17 @@ use Rattle.console.proofs.ward_log.put_call.Goals as goal
 pub returns-in-Write : goal.returns-in-Write
 unfolding call_word
 returns-in-Write c =
-    rw (c.in-Own.is, c.enum_told.given.1) c.put_word.ensures
+    rw (c.in-Own.is, c.in-Write.is) c.put_word.ensures
 
 pub returns-in-Read : goal.returns-in-Read
 unfolding call_word
 returns-in-Read c =
-    rw (c.in-Own.is, c.enum-told2.given.1) c.put_word-in-Read.ensures
+    rw (c.in-Own.is, c.in-Read.is) c.put_word-in-Read.ensures
 
 pub returns-in-General : goal.returns-in-General
 unfolding call_word
-returns-in-General c = rw c.enum-told3.given.1 c.put_word-in-General.ensures
+returns-in-General c = rw c.in-General.is c.put_word-in-General.ensures
 
 pub returns-in-Nothing : goal.returns-in-Nothing
 unfolding call_word
-returns-in-Nothing c = rw c.enum-told4.given.1 c.put_word-in-Nothing.ensures
+returns-in-Nothing c = rw c.in-Nothing.is c.put_word-in-Nothing.ensures

@@ -3,9 +3,6 @@ use Rattle.console.specs.WardLog.{match_text}
 use Rattle.text.proofs.Holds.{chain, same_room}
 use Rattle.console.proofs.ward_log.put_match.Goals as goal
 
-pub shape_of-text : goal.shape_of-text
-shape_of-text c = same_room _ _ _ (returns c)
-
 pub returns : goal.returns
 unfolding match_text
 returns c =

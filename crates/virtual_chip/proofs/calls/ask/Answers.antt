@@ -10,31 +10,30 @@ use Rattle.virtual_chip.specs.RecordBytes.{record_of}
 use Rattle.virtual_chip.proofs.calls.ask.Goals as goal
 
 pub decode-requires : goal.decode-requires
-decode-requires c = record-long _ (sym c.is-record.ensures ∙ c.if1.true)
+decode-requires c = record-long _ (sym c.is_record.ensures ∙ c.if-is_record.true)
 
 pub shape_of-memory-then-accepted : goal.shape_of-memory-then-accepted
-shape_of-memory-then-accepted c = c.store.auto.0
+shape_of-memory-then-accepted c = c.store.auto.memory
 
 pub returns-then-accepted : goal.returns-then-accepted
 unfolding record_of outcome_of
 returns-then-accepted c =
-    let a = c.before.args in
+    let a = c.args in
     let m = a.memory.now in
     let found = sym c.is_record.ensures ∙ c.if-is_record.true in
     let stored = c.decode.ensures ∙ sym (when-true _ _ _ found) in
-    let asked = c.access.ensures ∙ ap (λ (d : Controller). group_of d a.kind a.place a.value) stored in
+    let asked = c.access-reply.ensures ∙ ap (λ (d : Controller). group_of d a.kind a.place a.value) stored in
     let all =
-        accepted m a.kind a.place a.value _ _ (outcome_of c.access.result) found asked c.refused.ensures c.value.ensures _
-    c.if2.true c.store.ensures in
+        accepted m a.kind a.place a.value _ _ (outcome_of c.access-reply.result) found asked c.refused-refused.ensures c.value.ensures _
+    c.if-accepted.true-raw c.store.ensures in
     record { answer = all.0; bytes = all.1 }
 
 pub returns-else-accepted : goal.returns-else-accepted
 unfolding record_of outcome_of
 returns-else-accepted c =
-    let at = c.before in
-    let a = at.before.args in
+    let a = c.args in
     let m = a.memory.now in
-    let found = sym c.is-record.ensures ∙ c.if1.true in
+    let found = sym c.is_record.ensures ∙ c.if-is_record.true in
     let stored = c.decode.ensures ∙ sym (when-true _ _ _ found) in
     let asked = c.access-reply.ensures ∙ ap (λ (d : Controller). group_of d a.kind a.place a.value) stored in
     let all =
@@ -44,7 +43,7 @@ returns-else-accepted c =
 
 pub returns : goal.returns
 returns c =
-    let a = c.before.args in
+    let a = c.args in
     let all =
         no_record_there a.memory.now a.kind a.place a.value (sym c.is_record.ensures ∙ c.if-is_record.false) in
     record { answer = all.0; bytes = all.1 }

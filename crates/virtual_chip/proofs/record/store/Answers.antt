@@ -23,11 +23,11 @@ store_buffer-requires c = ltb-false _ _ c.if-no_room.false-raw
 pub store_head-requires : goal.store_head-requires
 store_head-requires c =
     let long = ltb-false (length c.args.memory.now) 88 c.if-no_room.false-raw in
-    let kept = c.store_buffer.auto.0 in
+    let kept = c.store_buffer.auto.memory in
     omega (arith, kept, long)
 
 pub shape_of-memory : goal.shape_of-memory
-shape_of-memory c = c.store_head.auto.0 ∙ c.store_buffer.auto.0
+shape_of-memory c = c.store_head.auto.memory ∙ c.store_buffer.auto.memory
 
 pub returns : goal.returns
 unfolding stored

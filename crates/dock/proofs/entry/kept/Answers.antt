@@ -1,9 +1,8 @@
 -- `kept` of a write is as many bytes as `take` finds, of a read none.
 use mathlib.Core.List.{List}
-use mathlib.Core.Path.{◌≡◌, refl, sym, ap, subst, ◌∙◌}
+use mathlib.Core.Path.{◌≡◌, refl, sym, subst, ◌∙◌}
 use Prim.Native.Nat.{ℕ, ◌≤◌}
 use native.Mathlib.Omega.{arith}
-use borrow.Author.Rules.{rules}
 use borrow.Author.Tests.{ltb-true, ltb-false}
 use lib.Dec.{ltb}
 use lib.ListN.{length, take}
@@ -12,8 +11,7 @@ use Rattle.address.specs.declared.number.Direction.{Direction}
 use Rattle.notation.proofs.Cases.{split}
 use Rattle.notation.specs.Choice.{when◌then◌else◌}
 use Rattle.port.specs.Port.{kept_data}
-use Rattle.dock.proofs.entry.kept.Statement.{statement}
-use Rattle.dock.proofs.entry.kept.Tie as tie
+use Rattle.dock.proofs.entry.kept.Goals as goal
 
 -- so many bytes are the first n
 abbrev FirstOf : ℕ → ℕ → ℕ → Type 0
@@ -29,18 +27,15 @@ least_first n lent =
 abbrev Keeps : ℕ → ℕ → ℕ → Direction → Type 0
 Keeps n lent r d = (r ≤ lent) × ((bytes : List ℕ) → length bytes ≡ lent → take r bytes ≡ kept_data d n bytes)
 
-returns : tie.Need-returns
+pub returns-in-Write : goal.returns-in-Write
 unfolding kept_data
-returns c =
-    let a = c.before.before.before.args in
-    subst (Keeps a.job.n a.lent c.least.result) (sym c.before.enum_told.given.1)
+returns-in-Write c =
+    let a = c.args in
+    subst (Keeps a.job.n a.lent c.least.result) (sym c.in-Write.is)
     (subst (FirstOf a.job.n a.lent) (sym c.least.ensures) (least_first a.job.n a.lent))
 
-returns-2 : tie.Need-returns-2
+pub returns-in-Read : goal.returns-in-Read
 unfolding kept_data
-returns-2 c =
-    let a = c.before.before.args in
-    subst (Keeps a.job.n a.lent 0) (sym c.enum-told2.given.1) (omega arith, λ bytes e. refl)
-
-pub kept_spec : {M : Type 1} → statement M
-kept_spec = tie.close (tie.spec (λ c. search rules) (λ c κs. search rules) (λ c. search rules) returns returns-2)
+returns-in-Read c =
+    let a = c.args in
+    subst (Keeps a.job.n a.lent 0) (sym c.in-Read.is) (omega arith, λ bytes e. refl)
