@@ -28,12 +28,12 @@ returns-then-short c = let m = c.args.state.now in
 pub returns : goal.returns
 unfolding give_up_call too_short given_up give_up_of port_of
 returns c =
-    let m = c.before.args.state.now in
-    let long = ltb-false (length m) 148 c.if1.false in
+    let m = c.args.state.now in
+    let long = ltb-false (length m) 148 c.if-short.false-raw in
     let tell = c.tell_first in
     let stand = c.give_up.ensures ∙ ap give_up_of c.load.ensures in
     let all =
-        told-kept (give_up_call m) (given_up (port_of m)) m m _ _ (when-false _ _ _ c.if1.false)
+        told-kept (give_up_call m) (given_up (port_of m)) m m _ _ (when-false _ _ _ c.if-short.false-raw)
     (tell.ensures.step ∙ ap (λ (s : Stand). ask_number (first_ask s)) stand ∙ ap ask_number (sym (broken-off (take 68 (drop 12 m)) 27 true)))
     (tell.ensures.state ∙ ap (λ (s : Stand). laid (head_bytes s) m) stand)
     refl (part_length 12 m (omega (arith, long))) (sym (laid_same 80 68 m)) in

@@ -50,18 +50,18 @@ returns-then-short c =
 
 pub load_marked-stand-requires : goal.load_marked-stand-requires
 load_marked-stand-requires c =
-    (ltb-false _ 148 c.if1.false, sym c.is-marked.ensures ∙ c.if2.true)
+    (ltb-false _ 148 c.if-short.false-raw, sym c.is_marked.ensures ∙ c.if-is_marked.true)
 
 pub tell-requires : goal.tell-requires
 tell-requires c =
     let keep = c.keep in
     let next = c.hear_in-next in
-    let m = c.before.before.before.args.state.now in
-    let long = ltb-false (length m) 148 c.before.if1.false in
-    let job = ap (λ (s : Stand). s.job) next.ensures ∙ same-job _ _ _ ∙ ap (λ (s : Stand). s.job) c.load-marked.ensures in (
-      omega (arith, long, keep.auto.0),
+    let m = c.args.state.now in
+    let long = ltb-false (length m) 148 c.if-short.false-raw in
+    let job = ap (λ (s : Stand). s.job) next.ensures ∙ same-job _ _ _ ∙ ap (λ (s : Stand). s.job) c.load_marked-stand.ensures in (
+      omega (arith, long, keep.auto.state),
       subst (FixedBytes next.result) (sym keep.ensures)
-          (fixed_before next.result _ m (fixed_marked next.result m (sym c.is-marked.ensures ∙ c.if2.true) job)),
+          (fixed_before next.result _ m (fixed_marked next.result m (sym c.is_marked.ensures ∙ c.if-is_marked.true) job)),
     )
 
 pub returns-then-is_marked : goal.returns-then-is_marked
@@ -69,17 +69,16 @@ unfolding next_call too_short step port_of
 returns-then-is_marked c =
     let tell = c.tell in
     let keep = c.keep in
-    let at = c.before in
-    let a = at.before.before.args in
+    let a = c.args in
     let m = a.state.now in
-    let long = ltb-false (length m) 148 at.if1.false in
-    let loaded = c.load-marked.ensures in
+    let long = ltb-false (length m) 148 c.if-short.false-raw in
+    let loaded = c.load_marked-stand.ensures in
     let kept = keep.new.state in
     let stand = c.hear_in-next.ensures
     ∙ ap (λ (s : Stand). hears s (data_in m) a.value) loaded in
     let place = c.place.ensures (data_in m) ∙ ap (λ (s : Stand). noted_at s (data_in m)) loaded in
     let all =
-        told-kept (next_call m a.value) (step (port_of m) a.value) m kept _ _ (when-false _ _ _ at.if1.false)
+        told-kept (next_call m a.value) (step (port_of m) a.value) m kept _ _ (when-false _ _ _ c.if-short.false-raw)
     (tell.ensures.step ∙ ap (λ (s : Stand). ask_number (asks s (data_in kept))) stand)
     (tell.ensures.state ∙ ap (λ (s : Stand). laid (head_bytes s) kept) stand)
     refl (part_length 12 m (omega (arith, long)))
@@ -91,14 +90,14 @@ unfolding next_call too_short step port_of
 returns c =
     let tell = c.tell_first in
     let put = c.break_off.ensures in
-    let a = c.before.args in
+    let a = c.args in
     let m = a.state.now in
-    let long = ltb-false (length m) 148 c.if1.false in
+    let long = ltb-false (length m) 148 c.if-short.false-raw in
     let none = unmarked m (sym c.is_marked.ensures ∙ c.if-is_marked.false) in
     let heard = ap (λ (s : Stand). hears s (data_in m) a.value) none ∙ heard-new (data_in m) a.value in
     let place = ap (λ (s : Stand). noted_at s (data_in m)) none ∙ noted-new (data_in m) in
     let all =
-        told-kept (next_call m a.value) (step (port_of m) a.value) m m _ _ (when-false _ _ _ c.if1.false)
+        told-kept (next_call m a.value) (step (port_of m) a.value) m m _ _ (when-false _ _ _ c.if-short.false-raw)
     (tell.ensures.step ∙ ap (λ (s : Stand). ask_number (first_ask s)) put ∙ ap ask_number (sym (broken-off (data_in m) 22 true))
     ∙ ap (λ (s : Stand). ask_number (asks s (data_in m))) (sym heard))
     (tell.ensures.state ∙ ap (λ (s : Stand). laid (head_bytes s) m) (put ∙ sym heard))

@@ -31,15 +31,15 @@ returns-then-short c =
 
 pub put_padded-requires-2 : goal.put_padded-requires-2
 put_padded-requires-2 c =
-    let long = ltb-false (length c.before.args.state.now) 148 c.if1.false in
-    let same = c.put_padded.auto.0 in
+    let long = ltb-false (length c.args.state.now) 148 c.if-short.false-raw in
+    let same = c.put_padded.auto.state in
     (omega (arith, long, same), omega arith)
 
 pub tell_first-requires : goal.tell_first-requires
 tell_first-requires c =
-    let long = ltb-false (length c.before.args.state.now) 148 c.if1.false in
-    let first = c.put_padded.auto.0 in
-    let second = c.put_padded-2.auto.0 in
+    let long = ltb-false (length c.args.state.now) 148 c.if-short.false-raw in
+    let first = c.put_padded.auto.state in
+    let second = c.put_padded-2.auto.state in
     omega (arith, long, first, second)
 
 pub returns : goal.returns
@@ -48,16 +48,16 @@ returns c =
     let tell = c.tell_first in
     let put = c.put_padded-2 in
     let zeros = c.put_padded in
-    let a = c.before.args in
+    let a = c.args in
     let m = a.state.now in
     let settings = a.settings.now in
-    let long = ltb-false (length m) 148 c.if1.false in
+    let long = ltb-false (length m) 148 c.if-short.false-raw in
     let p = recovering (port_of m) settings in
     let stand = c.bring_back-stand.ensures ∙ ap (λ (s : Stand). recover_of s settings) c.load.ensures in
     let first = recovery-asks (take 68 (drop 12 put.new.state)) (stand_of m) settings in
     let size = laid_at-length 80 p.fetched m in
     let all =
-        told_anew (recover_call m settings) p m put.new.state _ _ (when-false _ _ _ c.if1.false)
+        told_anew (recover_call m settings) p m put.new.state _ _ (when-false _ _ _ c.if-short.false-raw)
     (tell.ensures.step ∙ ap (λ (s : Stand). ask_number (first_ask s)) stand ∙ ap ask_number (sym first))
     (tell.ensures.state ∙ ap (λ (s : Stand). laid (head_bytes s) put.new.state) stand)
     (padded-length settings) (omega (arith, size, long))

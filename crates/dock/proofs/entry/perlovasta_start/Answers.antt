@@ -31,15 +31,15 @@ returns-then-short c =
 
 pub put_padded-requires-2 : goal.put_padded-requires-2
 put_padded-requires-2 c =
-    let long = ltb-false (length c.before.args.state.now) 148 c.if1.false in
-    let same = c.put_padded.auto.0 in
+    let long = ltb-false (length c.args.state.now) 148 c.if-short.false-raw in
+    let same = c.put_padded.auto.state in
     (omega (arith, long, same), c.kept.ensures.0)
 
 pub tell_first-requires : goal.tell_first-requires
 tell_first-requires c =
-    let long = ltb-false (length c.before.args.state.now) 148 c.if1.false in
-    let first = c.put_padded.auto.0 in
-    let second = c.put_padded-2.auto.0 in
+    let long = ltb-false (length c.args.state.now) 148 c.if-short.false-raw in
+    let first = c.put_padded.auto.state in
+    let second = c.put_padded-2.auto.state in
     omega (arith, long, first, second)
 
 pub returns : goal.returns
@@ -48,11 +48,11 @@ returns c =
     let tell = c.tell_first in
     let put = c.put_padded-2 in
     let zeros = c.put_padded in
-    let asked = c.job-asked in
-    let a = c.before.args in
+    let asked = c.job_asked-job in
+    let a = c.args in
     let m = a.state.now in
     let bytes = a.bytes.now in
-    let long = ltb-false (length m) 148 c.if1.false in
+    let long = ltb-false (length m) 148 c.if-short.false-raw in
     let job = job_asked a.kind a.address a.n in
     let p = started (port_of m) job bytes in
     let kept = c.kept.ensures.1 bytes refl
@@ -62,7 +62,7 @@ returns c =
     let first = start_asks (take 68 (drop 12 put.new.state)) (stand_of m) job (length bytes) in
     let size = laid_at-length 80 p.fetched m in
     let all =
-        told_anew (start_call m a.kind a.address a.n bytes) p m put.new.state _ _ (when-false _ _ _ c.if1.false)
+        told_anew (start_call m a.kind a.address a.n bytes) p m put.new.state _ _ (when-false _ _ _ c.if-short.false-raw)
     (tell.ensures.step ∙ ap (λ (s : Stand). ask_number (first_ask s)) stand ∙ ap ask_number (sym first))
     (tell.ensures.state ∙ ap (λ (s : Stand). laid (head_bytes s) put.new.state) stand)
     (padded-length (kept_data job.direction job.n bytes)) (omega (arith, size, long))

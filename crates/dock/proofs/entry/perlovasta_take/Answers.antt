@@ -25,16 +25,16 @@ returns-then-short c =
 
 pub store-requires : goal.store-requires
 store-requires c =
-    let long = ltb-false (length c.before.before.before.args.state.now) 148 c.if1.false in
-    let kept = c.put_padded.auto.0 in
+    let long = ltb-false (length c.args.state.now) 148 c.if-short.false-raw in
+    let kept = c.put_padded.auto.state in
     omega (arith, kept, long)
 
 pub returns-then-done : goal.returns-then-done
 unfolding too_short port_of emptied
 returns-then-done c =
     let off = c.break_off in
-    let short = c.if1.false in
-    let a = c.before.before.before.args in
+    let short = c.if-short.false-raw in
+    let a = c.args in
     let m = a.state.now in
     let destination = a.destination.now in
     let long = ltb-false (length m) 148 short in
@@ -43,21 +43,21 @@ returns-then-done c =
     c.store.ensures
     ∙ ap (laid (head_bytes off.result)) c.put_padded.ensures
     ∙ ap (λ (s : Stand). laid (head_bytes s) (laid_at 80 (padded []) m))
-    (off.ensures ∙ ap (λ (s : Stand). broken_off 21 s.stale) c.load.ensures)
+    (off.ensures ∙ ap (λ (s : Stand). broken_off 21 s.stale) c.load-stand.ensures)
     ∙ sym (kept-laid (emptied (port_of m)) m refl (part_length 12 m (omega (arith, long)))) in
-    let g = handed_up m destination _ _ (take_of c.load.result bytes (length destination)) short
-    (ap (λ (s : Stand). take_of s bytes (length destination)) c.load.ensures) c.hand-up-from.ensures.0 c.hand-up-from.ensures.1 _
-    c.if2.true state in
+    let g = handed_up m destination _ _ (take_of c.load-stand.result bytes (length destination)) short
+    (ap (λ (s : Stand). take_of s bytes (length destination)) c.load-stand.ensures) c.hand_up_from-answer.ensures.answer c.hand_up_from-answer.ensures.handed _
+    c.if-done.true-raw state in
     record { answer = g.0; handed = g.1; state = g.2 }
 
 pub returns-else-done : goal.returns-else-done
 unfolding too_short port_of
 returns-else-done c =
-    let a = c.before.before.args in
+    let a = c.args in
     let m = a.state.now in
     let destination = a.destination.now in
     let bytes = take 68 (drop 80 m) in
-    let g = not-handed m destination _ _ (take_of c.load.result bytes (length destination)) c.if1.false
-    (ap (λ (s : Stand). take_of s bytes (length destination)) c.load.ensures) c.hand_up_from-answer.ensures.answer c.hand_up_from-answer.ensures.handed
+    let g = not-handed m destination _ _ (take_of c.load-stand.result bytes (length destination)) c.if-short.false-raw
+    (ap (λ (s : Stand). take_of s bytes (length destination)) c.load-stand.ensures) c.hand_up_from-answer.ensures.answer c.hand_up_from-answer.ensures.handed
     c.if-done.false-raw in
     record { answer = g.0; handed = g.1; state = g.2 }

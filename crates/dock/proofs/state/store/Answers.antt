@@ -21,7 +21,7 @@ update-requires c =
     (simp length-set (omega (arith, c.requires)), fixed_stored c.args.s c.args.state.now (omega (arith, c.requires)))
 
 pub shape_of-state : goal.shape_of-state
-shape_of-state c = c.update.auto.0 ∙ simp length-set
+shape_of-state c = c.update.auto.state ∙ simp length-set
 
 pub returns : goal.returns
 unfolding head_bytes

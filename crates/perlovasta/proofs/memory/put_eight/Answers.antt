@@ -8,26 +8,18 @@ use lib.ListN.{length, drop, set, get_or, length-set, drop_of_length-le}
 use Rattle.notation.proofs.Lists.{drop-one}
 use Rattle.notation.proofs.Overlay.{none, one_more}
 use Rattle.notation.specs.Overlay.{laid_at}
-use Rattle.perlovasta.proofs.memory.put_eight.Statement.{statement}
-use Rattle.perlovasta.proofs.memory.put_eight.Tie as tie
+use Rattle.perlovasta.proofs.memory.put_eight.Goals as goal
 
-abbrev invariant-loop : tie.invariant-loop
-invariant-loop memory₀ at bytes i₀ memory i =
-    (i ≤ 8) × (length memory ≡ length memory₀) × (laid_at (at + i) (drop i bytes) memory ≡ laid_at at bytes memory₀)
-
-abbrev decreases-loop : tie.decreases-loop
-decreases-loop memory₀ at bytes i₀ memory i = 8 - i
-
-loop-holds : tie.Need-loop-init invariant-loop decreases-loop
-loop-holds c =
+pub loop-i-init : goal.loop-i-init
+loop-i-init c =
     let start : c.args.at + 0 ≡ c.args.at = omega arith in
-    (search rules, refl, ap (λ (k : ℕ). laid_at k c.args.t3 c.args.memory.now) start)
+    (search rules, refl, ap (λ (k : ℕ). laid_at k c.args.bytes c.args.memory.now) start)
 
-loop-again : tie.Need-loop-preserved invariant-loop decreases-loop
-loop-again c =
-    let l = c.before.loop in
-    let at = c.before.before.args.at in
-    let bytes = c.before.before.args.t3 in
+pub loop-i-preserved : goal.loop-i-preserved
+loop-i-preserved c =
+    let l = c.loop-i in
+    let at = c.args.at in
+    let bytes = c.args.bytes in
     let x = get_or bytes l.i 0 in
     let next = drop-one bytes l.i (omega arith) in
     let place : at + (l.i + 1) ≡ at + l.i + 1 = omega arith in (
@@ -39,27 +31,11 @@ loop-again c =
           ∙ l.invariant.2,
     )
 
-returns : tie.Need-returns invariant-loop decreases-loop
+pub returns : goal.returns
 returns c =
-    let l = c.before.loop in
-    let at = c.before.before.args.at in
-    let bytes = c.before.before.args.t3 in
+    let l = c.loop-i in
+    let at = c.args.at in
+    let bytes = c.args.bytes in
     let past : length bytes ≤ l.i = omega arith in
     let none_left = drop_of_length-le bytes past in
     sym (ap (λ (xs : List ℕ). laid_at (at + l.i) xs l.memory) none_left ∙ none (at + l.i) l.memory) ∙ l.invariant.2
-
-pub put_eight_spec : {M : Type 1} → statement M
-put_eight_spec =
-    tie.close
-    (tie.spec
-    invariant-loop
-    decreases-loop
-    loop-holds
-    (λ c. search rules)
-    (λ c. search rules)
-    (λ c. search rules)
-    (λ c. search rules)
-    (λ c. search rules)
-    loop-again
-    (λ c. search rules)
-    returns)
