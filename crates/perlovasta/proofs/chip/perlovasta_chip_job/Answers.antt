@@ -32,7 +32,7 @@ returns-then-short c =
 pub returns : goal.returns
 unfolding chip_after_job
 returns c =
-    let s = c.before.args in
+    let s = c.args in
     let chip = s.chip.now in
     let payload = s.payload.now in
     let destination = s.destination.now in
@@ -40,7 +40,7 @@ returns c =
     let script = s.script.now in
     let report = s.report.now in
     let ran = c.run_reported.ensures in
-    let long = c.if1.false in
+    let long = c.if-short.false-raw in
     let asked : Controller → Report = λ d. request_report d s.kind s.address s.n payload (length destination) (length out) script in
     let same = ap asked c.load-c.ensures in
     let g = reported (record_of chip) s.kind s.address s.n payload destination out script report _ _ _ _ long

@@ -22,5 +22,5 @@ pub returns : goal.returns
 unfolding result_left result_of
 returns c =
     let m = c.args.chip.now in
-    let other = ap (λ (k : ℕ). eqb k 21 or eqb k 22) (sym c.number.ensures) ∙ sym (either _ _) ∙ c.if1.false in
+    let other = ap (λ (k : ℕ). eqb k 21 or eqb k 22) (sym c.number-number.ensures) ∙ sym (either _ _) ∙ c.if-malformed-unready.false in
     c.store.ensures ∙ sym (ap (λ (xs : List ℕ). laid xs m) (when-false _ _ _ other))

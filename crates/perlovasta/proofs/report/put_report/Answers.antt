@@ -27,16 +27,16 @@ pub put_eight-requires : goal.put_eight-requires
 put_eight-requires c = simp length-set (omega (arith, c.requires))
 
 pub shape_of-report : goal.shape_of-report
-shape_of-report c = simp length-set at c.put_eight.auto.0
+shape_of-report c = simp length-set at c.put_eight.auto.memory
 
 pub returns : goal.returns
 unfolding report_bytes result_of
 returns c =
     let s = c.args in
     let report = s.report.now in
-    let events = low_first 8 s.result.events in
-    let count = s.result.count in
-    let sent = s.result.sent in
+    let events = low_first 8 s.res.events in
+    let count = s.res.count in
+    let sent = s.res.sent in
     let number = c.number in
     let beside = c.beside in
     c.put_eight.ensures
@@ -46,4 +46,4 @@ returns c =
       c.requires,
     ))
     ∙ ap (λ (x : ℕ). laid (x ∷ beside.result ∷ count ∷ sent ∷ events) report) number.ensures
-    ∙ ap (λ (x : ℕ). laid (number_of s.result.ending ∷ x ∷ count ∷ sent ∷ events) report) beside.ensures
+    ∙ ap (λ (x : ℕ). laid (number_of s.res.ending ∷ x ∷ count ∷ sent ∷ events) report) beside.ensures

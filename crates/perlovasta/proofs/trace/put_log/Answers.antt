@@ -25,13 +25,14 @@ use Rattle.perlovasta.proofs.trace.put_log.Lts as lts
 use Rattle.perlovasta.proofs.trace.put_log.Reads as reads
 use Rattle.perlovasta.proofs.trace.put_log.Tie as tie
 use Rattle.perlovasta.proofs.trace.put_log.Goals as goal
+use Rattle.perlovasta.proofs.trace.put_log.Goals.{in-0+in-Advanced, in-0+in_default-effect, in-1+in-Refused, in-1+in-Pointed, in-1+in-Loaded, in-1+in-Registered, in-1+in-Armed, in-1+in-Set, in-1+in-Reset, in_default+in-Refused-effect, in_default+in-Unchanged, in_default+in-Listen, in_default+in-Busy, in_default+in-Free, in_default+in-Stopped, in_default+in-Interrupts, in_default+in-Sent, in_default+in-SentLast, in_default+in-Received, in_default+in-ReceivedLast, in_default+in-ChangesStatus, in_default+in-Reset-effect}
+use borrow.Enum.Refused.{opened}
 
 -- where the arms meet
 abbrev Met : Type 0
 Met = lts.At-match-branch tie.the-claims reads.Pre reads.Post goal.the-invariant-loop-i goal.the-decreases-loop-i tie.handed_clauses
 
--- there the answer and the record are what the group gives. A way has in this order: the arm of the kind, the calls for the effect and for its
--- answer, the arm of the effect and which it was, the calls that change the record; last the record and the answer that it leaves.
+-- there the answer and the record are what the group gives
 joined : (c : Met) →
     let l = c.loop-i in
     let trace = c.args.trace.now in
@@ -39,30 +40,32 @@ joined : (c : Met) →
 unfolding after_read after_write after_event refuses accepts wrote waits_for interrupts_at changes_status received
 joined c =
     let d = c.loop-i.c in
-    ((λ w. was_read d _ _ _ w.0.keys1 w.1.ensures w.2.ensures w.6 w.4.given.1 w.5)
-    or_else (λ w. was_read d _ _ _ {e = w.1.result} w.0.keys1 w.1.ensures w.2.ensures w.5 refl
-    (w.4 ∙ read_kept d w.1.result w.3.keys2))
-    or_else (λ w. was-written d _ _ _ w.0.keys2 w.1.ensures w.2.ensures w.6 w.4.given.1 w.5)
-    or_else (λ w. was-written d _ _ _ w.0.keys2 w.1.ensures w.2.ensures w.8 w.4.given.1 (w.7 ∙ w.6.ensures))
-    or_else (λ w. was-written d _ _ _ w.0.keys2 w.1.ensures w.2.ensures w.8 w.4.given.1 (w.7 ∙ w.6.ensures))
-    or_else (λ w. was-written d _ _ _ w.0.keys2 w.1.ensures w.2.ensures w.8 w.4.given.1 (w.7 ∙ w.6.ensures))
-    or_else (λ w. was-written d _ _ _ w.0.keys2 w.1.ensures w.2.ensures w.7 w.4.given.1 w.6)
-    or_else (λ w. was-written d _ _ _ w.0.keys2 w.1.ensures w.2.ensures w.8 w.4.given.1 (w.7 ∙ w.6.ensures))
-    or_else (λ w. was-written d _ _ _ w.0.keys2 w.1.ensures w.2.ensures w.7 w.4.given.1 (w.6 ∙ w.5.ensures))
-    or_else (λ w. was-event d _ _ _ w.0.rest w.1.ensures w.2.ensures w.6 w.4.given.1 w.5)
-    or_else (λ w. was-event d _ _ _ w.0.rest w.1.ensures w.2.ensures w.6 w.4.given.1 w.5)
-    or_else (λ w. was-event d _ _ _ w.0.rest w.1.ensures w.2.ensures w.7 w.4.given.1 (w.6 ∙ w.5.ensures))
-    or_else (λ w. was-event d _ _ _ w.0.rest w.1.ensures w.2.ensures w.7 w.4.given.1 (w.6 ∙ w.5.ensures))
-    or_else (λ w. was-event d _ _ _ w.0.rest w.1.ensures w.2.ensures w.7 w.4.given.1 (w.6 ∙ w.5.ensures))
-    or_else (λ w. was-event d _ _ _ w.0.rest w.1.ensures w.2.ensures w.7 w.4.given.1 (w.6 ∙ w.5.ensures))
-    or_else (λ w. was-event d _ _ _ w.0.rest w.1.ensures w.2.ensures w.8 w.4.given.1 (w.7 ∙ w.6.ensures))
-    or_else (λ w. was-event d _ _ _ w.0.rest w.1.ensures w.2.ensures w.6 w.4.given.1 w.5)
-    or_else (λ w. was-event d _ _ _ w.0.rest w.1.ensures w.2.ensures w.8 w.4.given.1 (w.7 ∙ w.6.ensures))
-    or_else (λ w. was-event d _ _ _ w.0.rest w.1.ensures w.2.ensures w.8 w.4.given.1 (w.7 ∙ rw w.6.ensures))
-    or_else (λ w. was-event d _ _ _ w.0.rest w.1.ensures w.2.ensures w.9 w.4.given.1 (w.8 ∙ w.7.ensures ∙ rw w.6.ensures))
-    or_else (λ w. was-event d _ _ _ w.0.rest w.1.ensures w.2.ensures w.8 w.4.given.1 (w.7 ∙ w.6.ensures))
-    or_else (λ w. was-event d _ _ _ w.0.rest w.1.ensures w.2.ensures w.7 w.4.given.1 (w.6 ∙ w.5.ensures)))
-    c.match-trace-i.branch
+    elim c.match-trace-i.branch [
+      in-0+in-Advanced w ↦ was_read d _ _ _ w.in-0.is w.read_effect-effect.ensures (w.answer-answer.ensures.refused, w.answer-answer.ensures.value) w.answer-is w.in-Advanced.is w.c-is
+    | in-0+in_default-effect w ↦
+        was_read d _ _ _ {e = w.read_effect-effect.result} w.in-0.is w.read_effect-effect.ensures (w.answer-answer.ensures.refused, w.answer-answer.ensures.value) w.answer-is refl
+        (w.c-is ∙ read_kept d w.read_effect-effect.result (opened w.in_default-effect.in_default-effect-own.keys2))
+    | in-1+in-Refused w ↦ was-written d _ _ _ w.in-1.is w.write_effect-effect.ensures (w.answer-answer-in-1.ensures.refused, w.answer-answer-in-1.ensures.value) w.answer-is w.in-Refused.is w.c-is
+    | in-1+in-Pointed w ↦ was-written d _ _ _ w.in-1.is w.write_effect-effect.ensures (w.answer-answer-in-1.ensures.refused, w.answer-answer-in-1.ensures.value) w.answer-is w.in-Pointed.is (w.c-is ∙ w.pointed-c.ensures)
+    | in-1+in-Loaded w ↦ was-written d _ _ _ w.in-1.is w.write_effect-effect.ensures (w.answer-answer-in-1.ensures.refused, w.answer-answer-in-1.ensures.value) w.answer-is w.in-Loaded.is (w.c-is ∙ w.loaded-c.ensures)
+    | in-1+in-Registered w ↦ was-written d _ _ _ w.in-1.is w.write_effect-effect.ensures (w.answer-answer-in-1.ensures.refused, w.answer-answer-in-1.ensures.value) w.answer-is w.in-Registered.is (w.c-is ∙ w.registered-c.ensures)
+    | in-1+in-Armed w ↦ was-written d _ _ _ w.in-1.is w.write_effect-effect.ensures (w.answer-answer-in-1.ensures.refused, w.answer-answer-in-1.ensures.value) w.answer-is w.in-Armed.is w.c-is
+    | in-1+in-Set w ↦ was-written d _ _ _ w.in-1.is w.write_effect-effect.ensures (w.answer-answer-in-1.ensures.refused, w.answer-answer-in-1.ensures.value) w.answer-is w.in-Set.is (w.c-is ∙ w.set-c.ensures)
+    | in-1+in-Reset w ↦ was-written d _ _ _ w.in-1.is w.write_effect-effect.ensures (w.answer-answer-in-1.ensures.refused, w.answer-answer-in-1.ensures.value) w.answer-is w.in-Reset.is (w.c-is ∙ w.reset-c.ensures)
+    | in_default+in-Refused-effect w ↦ was-event d _ _ _ w.in_default.in_default-own.rest w.event_effect-effect.ensures (w.answer-answer-in_default.ensures.refused, w.answer-answer-in_default.ensures.value) w.answer-is w.in-Refused-effect.is w.c-is
+    | in_default+in-Unchanged w ↦ was-event d _ _ _ w.in_default.in_default-own.rest w.event_effect-effect.ensures (w.answer-answer-in_default.ensures.refused, w.answer-answer-in_default.ensures.value) w.answer-is w.in-Unchanged.is w.c-is
+    | in_default+in-Listen w ↦ was-event d _ _ _ w.in_default.in_default-own.rest w.event_effect-effect.ensures (w.answer-answer-in_default.ensures.refused, w.answer-answer-in_default.ensures.value) w.answer-is w.in-Listen.is (w.c-is ∙ w.turned-c.ensures)
+    | in_default+in-Busy w ↦ was-event d _ _ _ w.in_default.in_default-own.rest w.event_effect-effect.ensures (w.answer-answer-in_default.ensures.refused, w.answer-answer-in_default.ensures.value) w.answer-is w.in-Busy.is (w.c-is ∙ w.turned-c-in-Busy.ensures)
+    | in_default+in-Free w ↦ was-event d _ _ _ w.in_default.in_default-own.rest w.event_effect-effect.ensures (w.answer-answer-in_default.ensures.refused, w.answer-answer-in_default.ensures.value) w.answer-is w.in-Free.is (w.c-is ∙ w.turned-c-in-Free.ensures)
+    | in_default+in-Stopped w ↦ was-event d _ _ _ w.in_default.in_default-own.rest w.event_effect-effect.ensures (w.answer-answer-in_default.ensures.refused, w.answer-answer-in_default.ensures.value) w.answer-is w.in-Stopped.is (w.c-is ∙ w.stopped-c.ensures)
+    | in_default+in-Interrupts w ↦ was-event d _ _ _ w.in_default.in_default-own.rest w.event_effect-effect.ensures (w.answer-answer-in_default.ensures.refused, w.answer-answer-in_default.ensures.value) w.answer-is w.in-Interrupts.is (w.c-is ∙ w.interrupted-c.ensures)
+    | in_default+in-Sent w ↦ was-event d _ _ _ w.in_default.in_default-own.rest w.event_effect-effect.ensures (w.answer-answer-in_default.ensures.refused, w.answer-answer-in_default.ensures.value) w.answer-is w.in-Sent.is w.c-is
+    | in_default+in-SentLast w ↦ was-event d _ _ _ w.in_default.in_default-own.rest w.event_effect-effect.ensures (w.answer-answer-in_default.ensures.refused, w.answer-answer-in_default.ensures.value) w.answer-is w.in-SentLast.is (w.c-is ∙ w.ended-c.ensures)
+    | in_default+in-Received w ↦ was-event d _ _ _ w.in_default.in_default-own.rest w.event_effect-effect.ensures (w.answer-answer-in_default.ensures.refused, w.answer-answer-in_default.ensures.value) w.answer-is w.in-Received.is (w.c-is ∙ rw w.cursor-cursor.ensures)
+    | in_default+in-ReceivedLast w ↦ was-event d _ _ _ w.in_default.in_default-own.rest w.event_effect-effect.ensures (w.answer-answer-in_default.ensures.refused, w.answer-answer-in_default.ensures.value) w.answer-is w.in-ReceivedLast.is (w.c-is ∙ w.ended-c-in-ReceivedLast.ensures ∙ rw w.cursor-cursor-in-ReceivedLast.ensures)
+    | in_default+in-ChangesStatus w ↦ was-event d _ _ _ w.in_default.in_default-own.rest w.event_effect-effect.ensures (w.answer-answer-in_default.ensures.refused, w.answer-answer-in_default.ensures.value) w.answer-is w.in-ChangesStatus.is (w.c-is ∙ w.with_status-c.ensures)
+    | in_default+in-Reset-effect w ↦ was-event d _ _ _ w.in_default.in_default-own.rest w.event_effect-effect.ensures (w.answer-answer-in_default.ensures.refused, w.answer-answer-in_default.ensures.value) w.answer-is w.in-Reset-effect.is (w.c-is ∙ w.reset-c-in-Reset-effect.ensures)
+    ]
 
 -- so the record there is sound
 stays-sound : (c : Met) → sound c.match-trace-i.c ≡ true
