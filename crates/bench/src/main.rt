@@ -4,11 +4,14 @@
 mod extent;
 mod jobs;
 mod print;
+mod read;
 mod state;
 mod trace;
 
-fn main() {
+use std::io;
+
+fn main(rt: HostRuntime) -> io::Result<()> {
     let mut input = [0u8; 65537];
-    let size = io::read_full(libc::STDIN_FILENO, &mut input);
-    trace::run(&input[..size]);
+    let size = read::read_full(&mut rt.stdin(), &mut input)?;
+    trace::run(&rt, &input[..size])
 }

@@ -1,8 +1,11 @@
 // Standard output.
+use std::io;
+use std::io::Write;
 
 // Writes the text's first bytes.
-pub(crate) fn print(text: &[u8], end: usize) {
+pub(crate) fn print(rt: &impl Print, text: &[u8], end: usize) -> io::Result<()> {
     if end <= text.len() {
-        io::write_all(libc::STDOUT_FILENO, &text[..end]);
+        io::writer(rt).write_all(&text[..end])?;
     }
+    Ok(())
 }

@@ -2,11 +2,15 @@
 #![tactic(auto)]
 
 mod input;
+mod read;
 
-fn main() {
+use std::io;
+use std::io::Write;
+
+fn main(rt: HostRuntime) -> io::Result<()> {
     let mut bytes = [0u8; 4097];
     let mut text = [0u8; 1024];
-    let size = io::read_full(libc::STDIN_FILENO, &mut bytes);
+    let size = read::read_full(&mut rt.stdin(), &mut bytes)?;
     let end = input::run(&bytes[..size], &mut text);
-    io::write_all(libc::STDOUT_FILENO, &text[..end]);
+    io::writer(&rt).write_all(&text[..end])
 }

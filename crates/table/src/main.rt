@@ -4,8 +4,11 @@
 mod cells;
 mod rows;
 
-fn main() {
+use std::io;
+use std::io::Write;
+
+fn main(rt: HostRuntime) -> io::Result<()> {
     let mut text = [0u8; 6144];
     let end = rows::put_table(&mut text);
-    io::write_all(libc::STDOUT_FILENO, &text[..end]);
+    io::writer(&rt).write_all(&text[..end])
 }
