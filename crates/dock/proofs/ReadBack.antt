@@ -21,11 +21,11 @@ use Rattle.notation.proofs.Cases.{when-true, when-false}
 use Rattle.notation.specs.Choice.{when◌then◌else◌, ◌and◌}
 use Rattle.notation.specs.Overlay.{laid}
 use Rattle.port.specs.Begin.{give_up_of}
-use Rattle.port.specs.HandUp.{Taken, nothing, take_of}
+use Rattle.port.specs.HandUp.{nothing, take_of}
 use Rattle.port.specs.Hear.{hears, hears_at}
 use Rattle.port.specs.Port.{Port, step, after_all, given_up, taken}
 use Rattle.port.specs.Stage.{stage_number, stage_for}
-use Rattle.port.specs.Stand.{stand, broken_off}
+use Rattle.port.specs.Stand.{broken_off}
 use Rattle.port.specs.declared.stage.Stage.TheVariants.{Over, Control, Status, First, Waiting, Look, Interrupted, Working, Recovering, Pausing, Recheck}
 use Rattle.port.specs.declared.stage.Stage.{Stage}
 use Rattle.port.specs.declared.stand.Stand.{Stand}

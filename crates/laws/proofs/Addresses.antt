@@ -19,7 +19,7 @@ use Rattle.controller.specs.Event.{bad_argument, event_sound, event_of}
 use Rattle.controller.specs.Record.{sound}
 use Rattle.controller.specs.Reply.{Outcome, refuses, accepts, waits_for, interrupts_at}
 use Rattle.controller.specs.declared.record.Controller.{Controller}
-use Rattle.laws.specs.Addresses.{LeadBack, Tells, MatchTells, MatchStays}
+use Rattle.laws.specs.Addresses.{LeadBack, MatchTells, MatchStays}
 use Rattle.notation.proofs.Cases.{when-true, when-false, and_right, split}
 use Rattle.notation.specs.Choice.{when◌then◌else◌, ◌and◌, ◌or◌}
 

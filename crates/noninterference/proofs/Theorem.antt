@@ -21,32 +21,7 @@ use Rattle.noninterference.proofs.Blind.{Blind}
 use Rattle.noninterference.proofs.Twin.{Twin, flip, write-alike, event-alike, twins, starts-same}
 use Rattle.noninterference.proofs.TwoJobs.{job-same}
 use Rattle.noninterference.proofs.TwoRuns.{RunSame}
-use Rattle.noninterference.specs.OldBytes.{
-  GivenJob,
-  Item,
-  run_job,
-  reset_pin,
-  indptr,
-  register2,
-  i2ccon,
-  anothers_start,
-  anothers_stop,
-  anothers_address,
-  Compared,
-  of_step,
-  answered,
-  Step,
-  of_access,
-  of_job,
-  report_of,
-  step,
-  observe,
-  HandsUpCarried,
-  Carries,
-  AlikeButForPlaces,
-  NoOldBytes,
-  Demand3,
-}
+use Rattle.noninterference.specs.OldBytes.{GivenJob, Item, run_job, reset_pin, indptr, register2, i2ccon, anothers_start, anothers_stop, anothers_address, of_step, answered, Step, of_access, of_job, report_of, step, observe, HandsUpCarried, Carries, AlikeButForPlaces, NoOldBytes, Demand3}
 use Rattle.notation.proofs.Among.{among-has}
 use Rattle.notation.proofs.Cases.{when-true, when-false, and-true, and_left, and_right, split}
 use Rattle.notation.specs.Choice.{when◌then◌else◌, ◌and◌, among}

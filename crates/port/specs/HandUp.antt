@@ -1,5 +1,5 @@
 -- Handing up: a step of its own, after the job is over.
-use Rattle.std.specs.Prelude.{Bool, not, List, [], ℕ, eqb, ltb, take}
+use Rattle.std.specs.Prelude.{not, List, [], ℕ, eqb, ltb, take}
 use Rattle.address.specs.Number.{bit_of}
 use Rattle.notation.specs.Choice.{when◌then◌else◌, ◌or◌}
 use Rattle.port.specs.Stage.{over, stage_number}

@@ -1,5 +1,5 @@
 -- What the port does next, by what it last asked for and the value that was read (0 where nothing was).
-use Rattle.std.specs.Prelude.{Bool, true, false, not, List, ℕ, ◌+◌, eqb, ltb, length}
+use Rattle.std.specs.Prelude.{false, not, List, ℕ, ◌+◌, eqb, ltb, length}
 use Rattle.answer.specs.Ending.{number_of}
 use Rattle.control.specs.Flags.{flags_of}
 use Rattle.notation.specs.Choice.{when◌then◌else◌, ◌and◌, among}

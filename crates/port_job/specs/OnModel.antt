@@ -1,5 +1,5 @@
 -- The port run against the model: each access is made on it, and each wait takes the script's next pair.
-use Rattle.std.specs.Prelude.{Bool, true, false, List, [], ◌∷◌, ℕ, zero, suc, ◌+◌, eqb}
+use Rattle.std.specs.Prelude.{List, [], ◌∷◌, ℕ, zero, suc, ◌+◌, eqb}
 use Rattle.controller.specs.Access.{read_of, write_of}
 use Rattle.controller.specs.Event.{event_of}
 use Rattle.controller.specs.Reply.{Outcome, accepts}

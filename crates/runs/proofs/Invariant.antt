@@ -18,7 +18,7 @@ use Rattle.controller.specs.Record.{place, byte_count, sound, move_sound}
 use Rattle.controller.specs.declared.record.Controller.{Controller}
 use Rattle.notation.proofs.Among.{within, clash}
 use Rattle.notation.proofs.Cases.{when-true, and_left}
-use Rattle.notation.specs.Choice.{◌and◌, among}
+use Rattle.notation.specs.Choice.{among}
 use Rattle.service.specs.JobSteps.{count_of}
 use Rattle.service.specs.declared.job.Job.{Job}
 use Rattle.service.specs.declared.progress.Progress.{Progress}

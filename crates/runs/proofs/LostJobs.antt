@@ -4,7 +4,6 @@ use mathlib.Core.List.{List, [], ◌∷◌}
 use mathlib.Core.Path.{◌≡◌, refl, sym, ap, subst, ◌∙◌}
 use Prim.Native.Nat.{ℕ}
 use lib.Dec.{eqb}
-use lib.ListN.{length}
 use borrow.Author.Tests.{eqb-false}
 use Rattle.answer.specs.Ending.{number_of}
 use Rattle.answer.specs.declared.ending.Ending.TheVariants as ending
@@ -29,7 +28,7 @@ use Rattle.service.specs.Act.{Act, writes, Work, put, reads, does, does_all, fol
 use Rattle.service.specs.JobSteps.{begins, go_on_after, stop_after, end_after}
 use Rattle.service.specs.JobTable.{job_table}
 use Rattle.service.specs.Progress.{starting}
-use Rattle.service.specs.Request.{malformed, ready}
+use Rattle.service.specs.Request.{ready}
 use Rattle.service.specs.Serve.{starts, serve}
 use Rattle.service.specs.declared.job.Job.{Job}
 use Rattle.service.specs.declared.progress.Progress.{Progress}

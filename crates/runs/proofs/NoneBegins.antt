@@ -1,6 +1,6 @@
 -- At 38h no job begins. Assumes nothing.
 use mathlib.Core.List.{[], ◌∷◌}
-use mathlib.Core.Path.{◌≡◌, ap, ◌∙◌}
+use mathlib.Core.Path.{ap, ◌∙◌}
 use lib.ListN.{length}
 use Rattle.control.proofs.Turning.{at38h-host}
 use Rattle.control.specs.Turn.{host, free, kind}

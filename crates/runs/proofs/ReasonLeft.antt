@@ -26,7 +26,7 @@ use Rattle.laws.proofs.Soundness.{event-stays-sound}
 use Rattle.laws.proofs.Status.{status-reads}
 use Rattle.notation.proofs.Among.{has, among-has, one_of, apart}
 use Rattle.notation.proofs.Cases.{when-true, when-false, and_no_left, split}
-use Rattle.notation.specs.Choice.{when◌then◌else◌, ◌and◌, ◌or◌, among}
+use Rattle.notation.specs.Choice.{when◌then◌else◌, ◌or◌, among}
 use Rattle.runs.proofs.ActsKeep.{fetch-keeps}
 use Rattle.runs.proofs.Begins.{begun}
 use Rattle.runs.proofs.ComesFrom.{turns_before, event-comes}

@@ -19,13 +19,13 @@ joined : (c : Joined-hand-end) →
 joined c =
     let l = c.loop-i in
     elim c.if-hand-end.branch [
-      then-hand-end w ↦
-        let below : l.next.hand < reach_of l.next = omega (arith, l.invariant.2, w.if-hand-end.true) in
-        let g = read-inside l.next below in
-        ((g.0 ∙ sym w.next-is, g.1 ∙ sym w.byte-is), ap reach_of w.next-is ∙ reach_stays l.next l.next.buffer l.next.armed below)
-    | else-hand-end w ↦
-        let g = read-outside l.next (omega (arith, l.invariant.2, w.if-hand-end.false)) in
-        ((g.0 ∙ sym w.next-is, g.1 ∙ sym w.byte-is), ap reach_of w.next-is)
+      | then-hand-end w ↦
+          let below : l.next.hand < reach_of l.next = omega (arith, l.invariant.2, w.if-hand-end.true) in
+          let g = read-inside l.next below in
+          ((g.0 ∙ sym w.next-is, g.1 ∙ sym w.byte-is), ap reach_of w.next-is ∙ reach_stays l.next l.next.buffer l.next.armed below)
+      | else-hand-end w ↦
+          let g = read-outside l.next (omega (arith, l.invariant.2, w.if-hand-end.false)) in
+          ((g.0 ∙ sym w.next-is, g.1 ∙ sym w.byte-is), ap reach_of w.next-is)
     ]
 
 pub loop-i-init : goal.loop-i-init

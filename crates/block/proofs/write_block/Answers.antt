@@ -1,6 +1,6 @@
 -- `write_block` is `written`: the bytes that are left, written to the record so far, always give what all of them give.
 use mathlib.Core.Path.{refl, sym, ap, ◌∙◌}
-use Prim.Native.Nat.{◌-◌, ◌+◌, ◌<◌}
+use Prim.Native.Nat.{◌+◌, ◌<◌}
 use native.Mathlib.Omega.{arith}
 use lib.ListN.{drop, get_or}
 use Rattle.block.specs.Block.{reach_of, written}

@@ -3,7 +3,7 @@ use mathlib.Core.Path.{ap}
 use Rattle.console.specs.JobText.{first_line}
 use Rattle.text.specs.Text.{decimal_of}
 use Rattle.driver.specs.Run.{result_of}
-use Rattle.text.proofs.Holds.{said, chain, same_room}
+use Rattle.text.proofs.Holds.{said, chain}
 use Rattle.console.proofs.report.put_first_line.Goals as goal
 
 pub returns : goal.returns

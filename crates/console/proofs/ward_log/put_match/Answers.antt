@@ -1,6 +1,6 @@
 -- `put_match` puts the word, the call and the address, one after the other.
 use Rattle.console.specs.WardLog.{match_text}
-use Rattle.text.proofs.Holds.{chain, same_room}
+use Rattle.text.proofs.Holds.{chain}
 use Rattle.console.proofs.ward_log.put_match.Goals as goal
 
 pub returns : goal.returns

@@ -22,7 +22,7 @@ pub returns-then-short : goal.returns-then-short
 unfolding give_up_call too_short
 returns-then-short c = let m = c.args.state.now in
     let all =
-        not_done_lem (give_up_call m) m (when-true _ _ _ c.if-short.true-raw) in
+    not_done_lem (give_up_call m) m (when-true _ _ _ c.if-short.true-raw) in
     record { step = all.0; state = all.1 }
 
 pub returns : goal.returns
@@ -33,7 +33,7 @@ returns c =
     let tell = c.tell_first in
     let stand = c.give_up.ensures ∙ ap give_up_of c.load.ensures in
     let all =
-        told-kept (give_up_call m) (given_up (port_of m)) m m _ _ (when-false _ _ _ c.if-short.false-raw)
+    told-kept (give_up_call m) (given_up (port_of m)) m m _ _ (when-false _ _ _ c.if-short.false-raw)
     (tell.ensures.step ∙ ap (λ (s : Stand). ask_number (first_ask s)) stand ∙ ap ask_number (sym (broken-off (take 68 (drop 12 m)) 27 true)))
     (tell.ensures.state ∙ ap (λ (s : Stand). laid (head_bytes s) m) stand)
     refl (part_length 12 m (omega (arith, long))) (sym (laid_same 80 68 m)) in

@@ -45,7 +45,7 @@ unfolding next_call too_short
 returns-then-short c =
     let a = c.args in
     let all =
-        not_done_lem (next_call a.state.now a.value) a.state.now (when-true _ _ _ c.if-short.true-raw) in
+    not_done_lem (next_call a.state.now a.value) a.state.now (when-true _ _ _ c.if-short.true-raw) in
     record { step = all.0; state = all.1 }
 
 pub load_marked-stand-requires : goal.load_marked-stand-requires
@@ -78,7 +78,7 @@ returns-then-is_marked c =
     ∙ ap (λ (s : Stand). hears s (data_in m) a.value) loaded in
     let place = c.place.ensures (data_in m) ∙ ap (λ (s : Stand). noted_at s (data_in m)) loaded in
     let all =
-        told-kept (next_call m a.value) (step (port_of m) a.value) m kept _ _ (when-false _ _ _ c.if-short.false-raw)
+    told-kept (next_call m a.value) (step (port_of m) a.value) m kept _ _ (when-false _ _ _ c.if-short.false-raw)
     (tell.ensures.step ∙ ap (λ (s : Stand). ask_number (asks s (data_in kept))) stand)
     (tell.ensures.state ∙ ap (λ (s : Stand). laid (head_bytes s) kept) stand)
     refl (part_length 12 m (omega (arith, long)))
@@ -97,7 +97,7 @@ returns c =
     let heard = ap (λ (s : Stand). hears s (data_in m) a.value) none ∙ heard-new (data_in m) a.value in
     let place = ap (λ (s : Stand). noted_at s (data_in m)) none ∙ noted-new (data_in m) in
     let all =
-        told-kept (next_call m a.value) (step (port_of m) a.value) m m _ _ (when-false _ _ _ c.if-short.false-raw)
+    told-kept (next_call m a.value) (step (port_of m) a.value) m m _ _ (when-false _ _ _ c.if-short.false-raw)
     (tell.ensures.step ∙ ap (λ (s : Stand). ask_number (first_ask s)) put ∙ ap ask_number (sym (broken-off (data_in m) 22 true))
     ∙ ap (λ (s : Stand). ask_number (asks s (data_in m))) (sym heard))
     (tell.ensures.state ∙ ap (λ (s : Stand). laid (head_bytes s) m) (put ∙ sym heard))

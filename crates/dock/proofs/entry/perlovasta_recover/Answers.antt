@@ -26,7 +26,7 @@ unfolding recover_call too_short
 returns-then-short c =
     let a = c.args in
     let all =
-        not_done_lem (recover_call a.state.now a.settings.now) a.state.now (when-true _ _ _ c.if-short.true-raw) in
+    not_done_lem (recover_call a.state.now a.settings.now) a.state.now (when-true _ _ _ c.if-short.true-raw) in
     record { step = all.0; state = all.1 }
 
 pub put_padded-requires-2 : goal.put_padded-requires-2
@@ -57,7 +57,7 @@ returns c =
     let first = recovery-asks (take 68 (drop 12 put.new.state)) (stand_of m) settings in
     let size = laid_at-length 80 p.fetched m in
     let all =
-        told_anew (recover_call m settings) p m put.new.state _ _ (when-false _ _ _ c.if-short.false-raw)
+    told_anew (recover_call m settings) p m put.new.state _ _ (when-false _ _ _ c.if-short.false-raw)
     (tell.ensures.step ∙ ap (λ (s : Stand). ask_number (first_ask s)) stand ∙ ap ask_number (sym first))
     (tell.ensures.state ∙ ap (λ (s : Stand). laid (head_bytes s) put.new.state) stand)
     (padded-length settings) (omega (arith, size, long))

@@ -26,7 +26,7 @@ unfolding start_call too_short
 returns-then-short c =
     let a = c.args in
     let all =
-        not_done_lem (start_call a.state.now a.kind a.address a.n a.bytes.now) a.state.now (when-true _ _ _ c.if-short.true-raw) in
+    not_done_lem (start_call a.state.now a.kind a.address a.n a.bytes.now) a.state.now (when-true _ _ _ c.if-short.true-raw) in
     record { step = all.0; state = all.1 }
 
 pub put_padded-requires-2 : goal.put_padded-requires-2
@@ -62,7 +62,7 @@ returns c =
     let first = start_asks (take 68 (drop 12 put.new.state)) (stand_of m) job (length bytes) in
     let size = laid_at-length 80 p.fetched m in
     let all =
-        told_anew (start_call m a.kind a.address a.n bytes) p m put.new.state _ _ (when-false _ _ _ c.if-short.false-raw)
+    told_anew (start_call m a.kind a.address a.n bytes) p m put.new.state _ _ (when-false _ _ _ c.if-short.false-raw)
     (tell.ensures.step ∙ ap (λ (s : Stand). ask_number (first_ask s)) stand ∙ ap ask_number (sym first))
     (tell.ensures.state ∙ ap (λ (s : Stand). laid (head_bytes s) put.new.state) stand)
     (padded-length (kept_data job.direction job.n bytes)) (omega (arith, size, long))

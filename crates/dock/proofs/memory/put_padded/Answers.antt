@@ -1,7 +1,7 @@
 -- `put_padded` lays the 68 bytes: those that are left, laid from the place reached, always give what all of them give.
 use mathlib.Core.List.{List}
 use mathlib.Core.Path.{◌≡◌, refl, sym, ap, ◌∙◌}
-use Prim.Native.Nat.{ℕ, ◌+◌, ◌-◌}
+use Prim.Native.Nat.{ℕ, ◌+◌}
 use native.Mathlib.Omega.{arith}
 use borrow.Author.Rules.{rules}
 use lib.ListN.{take, drop, set, get_or, length-set, drop_of_length-le}

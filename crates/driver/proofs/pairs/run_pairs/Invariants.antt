@@ -6,7 +6,7 @@ use Rattle.controller.specs.Record.{sound}
 use Rattle.driver.specs.Run.{run}
 use Rattle.service.specs.JobTable.{job_table}
 use Rattle.service.specs.Progress.{reaching}
-use Rattle.driver.proofs.Script.{Leads, over}
+use Rattle.driver.proofs.Script.{Leads}
 use Rattle.driver.proofs.pairs.run_pairs.Given as goal
 
 abbrev pub invariant-loop-i : goal.invariant-loop-i

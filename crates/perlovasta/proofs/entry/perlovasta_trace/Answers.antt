@@ -28,7 +28,7 @@ declined trace log bad =
 pub returns-then-is_bad : goal.returns-then-is_bad
 returns-then-is_bad c =
     let all =
-        declined _ _ (or_left _ _ (sym c.is_bad.ensures ∙ c.if-is_bad.true)) in
+    declined _ _ (or_left _ _ (sym c.is_bad.ensures ∙ c.if-is_bad.true)) in
     record { answer = all.0; logged = all.1 }
 
 pub returns-then-short : goal.returns-then-short
@@ -36,7 +36,7 @@ returns-then-short c =
     let room = length c.args.log.now in
     let groups = length c.args.trace.now / 3 in
     let all =
-        declined _ _ (or_right _ _ (same_room room groups ∙ c.if-short.true-raw)) in
+    declined _ _ (or_right _ _ (same_room room groups ∙ c.if-short.true-raw)) in
     record { answer = all.0; logged = all.1 }
 
 pub put_log-requires : goal.put_log-requires

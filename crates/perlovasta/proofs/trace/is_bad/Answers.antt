@@ -1,6 +1,6 @@
 -- `is_bad` is `bad_trace`: what is left of the trace is bad exactly where the whole is.
 use mathlib.Core.Path.{sym, ◌∙◌}
-use Prim.Native.Nat.{◌+◌, ◌-◌, ◌<◌}
+use Prim.Native.Nat.{◌+◌, ◌<◌}
 use native.Mathlib.Omega.{arith}
 use lib.ListN.{length}
 use Rattle.notation.proofs.Cases.{or_left, or-on}

@@ -1,6 +1,5 @@
 -- `put_cells` puts the cells: at each round the text holds those of the first columns.
 use mathlib.Core.Path.{ap, ◌∙◌}
-use Prim.Native.Nat.{◌-◌}
 use native.Mathlib.Omega.{arith}
 use borrow.Author.Rules.{rules}
 use Rattle.responses.specs.Table.{entry_at}

@@ -1,6 +1,5 @@
 -- `put_rows` puts the rows: at each round the text holds the first of them.
 use mathlib.Core.Path.{ap}
-use Prim.Native.Nat.{◌-◌}
 use native.Mathlib.Omega.{arith}
 use borrow.Author.Rules.{rules}
 use Rattle.table.specs.TableText.{rows}

@@ -1,5 +1,5 @@
 -- `put_hex` puts the two digits.
-use Rattle.text.specs.Text.{digit, hex_of}
+use Rattle.text.specs.Text.{hex_of}
 use Rattle.text.proofs.Holds.{said, chain}
 use Rattle.text.proofs.put.put_hex.Goals as goal
 

@@ -1,6 +1,5 @@
 -- `put_listed` puts the bytes: at each round the text holds the first i of them.
 use mathlib.Core.Path.{sym, ap}
-use Prim.Native.Nat.{◌-◌}
 use native.Mathlib.Omega.{arith}
 use borrow.Author.Rules.{rules}
 use lib.Seq.{take_all}

@@ -1,5 +1,4 @@
 -- `put_word` puts the word: at each round the text holds its first i bytes.
-use Prim.Native.Nat.{◌-◌}
 use native.Mathlib.Omega.{arith}
 use borrow.Author.Rules.{rules}
 use lib.Seq.{take_all}

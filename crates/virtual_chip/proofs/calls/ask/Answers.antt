@@ -24,7 +24,7 @@ returns-then-accepted c =
     let stored = c.decode.ensures ∙ sym (when-true _ _ _ found) in
     let asked = c.access-reply.ensures ∙ ap (λ (d : Controller). group_of d a.kind a.place a.value) stored in
     let all =
-        accepted m a.kind a.place a.value _ _ (outcome_of c.access-reply.result) found asked c.refused-refused.ensures c.value.ensures _
+    accepted m a.kind a.place a.value _ _ (outcome_of c.access-reply.result) found asked c.refused-refused.ensures c.value.ensures _
     c.if-accepted.true-raw c.store.ensures in
     record { answer = all.0; bytes = all.1 }
 
@@ -37,7 +37,7 @@ returns-else-accepted c =
     let stored = c.decode.ensures ∙ sym (when-true _ _ _ found) in
     let asked = c.access-reply.ensures ∙ ap (λ (d : Controller). group_of d a.kind a.place a.value) stored in
     let all =
-        refused_so m a.kind a.place a.value _ _ (outcome_of c.access-reply.result) found asked c.refused-refused.ensures c.value.ensures
+    refused_so m a.kind a.place a.value _ _ (outcome_of c.access-reply.result) found asked c.refused-refused.ensures c.value.ensures
     c.if-accepted.false-raw in
     record { answer = all.0; bytes = all.1 }
 
@@ -45,5 +45,5 @@ pub returns : goal.returns
 returns c =
     let a = c.args in
     let all =
-        no_record_there a.memory.now a.kind a.place a.value (sym c.is_record.ensures ∙ c.if-is_record.false) in
+    no_record_there a.memory.now a.kind a.place a.value (sym c.is_record.ensures ∙ c.if-is_record.false) in
     record { answer = all.0; bytes = all.1 }

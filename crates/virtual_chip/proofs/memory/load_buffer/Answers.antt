@@ -1,7 +1,7 @@
 -- `load_buffer` reads the 68 places: those that are left, laid from the place reached, always give what all of them give.
 use mathlib.Core.List.{List, ◌∷◌}
 use mathlib.Core.Path.{◌≡◌, refl, sym, ap, ◌∙◌}
-use Prim.Native.Nat.{ℕ, ◌+◌, ◌-◌}
+use Prim.Native.Nat.{ℕ, ◌+◌}
 use native.Mathlib.Omega.{arith}
 use borrow.Author.Rules.{rules}
 use lib.ListN.{take, drop, get_or, replicate, length-set, length-drop, length-replicate}
