@@ -4,11 +4,11 @@ use std::env;
 use std::path::{Path, PathBuf};
 
 const VARIABLE: &str = "PERLOVASTA_LIB_DIR";
-/// Where `rt staticlib` puts libraries, from the repository's root.
+/// Where `tests/build library` puts libraries, from the repository's root.
 const DEFAULT: &str = "target/staticlib";
 
-/// Has cargo link this library: from the folder that the variable names, or where `rt staticlib`
-/// puts it. What stands in the way is said as an error of the build.
+/// Has cargo link this library: from the folder that the variable names, or where `tests/build
+/// library` puts it. What stands in the way is said as an error of the build.
 pub fn link(library: &str) {
     println!("cargo::rerun-if-env-changed={VARIABLE}");
     if let Some(refusal) = refusal(&cfg("ARCH"), &cfg("POINTER_WIDTH"), &cfg("OS")) {
@@ -47,7 +47,7 @@ pub fn remedy(library: &str, named: bool) -> String {
     if named {
         return format!("name the folder of lib{library}.a in {VARIABLE}, or unset it");
     }
-    format!("run `rt staticlib {library}`, or name its folder in {VARIABLE}")
+    format!("run `sh tests/build library {library}`, or name its folder in {VARIABLE}")
 }
 
 /// The library's folder. A relative one is taken from the repository's root, and an empty name

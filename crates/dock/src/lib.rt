@@ -1,6 +1,6 @@
 // The port for C and Rust: its state in lent bytes. Its functions are in `entry`.
 #![tactic(auto)]
 
-mod entry;
+pub mod entry;
 mod memory;
 mod state;

@@ -9,8 +9,7 @@ use virtual_chip::calls::{ask, make_fresh};
 use virtual_chip::record::load;
 
 // A fresh controller: 0, or 10 where there is no room for it.
-#[unsafe(no_mangle)]
-pub extern "C" fn perlovasta_chip_fresh(chip: &mut [u8]) -> u8
+pub fn perlovasta_chip_fresh(chip: &mut [u8]) -> u8
     ensures answer { result ≡ (fresh_call chip.old).answer }
     ensures chip { chip.new ≡ laid (fresh_call chip.old).bytes chip.old }
 {
@@ -18,8 +17,7 @@ pub extern "C" fn perlovasta_chip_fresh(chip: &mut [u8]) -> u8
 }
 
 // A register is read: the refusal, and 256 times the value.
-#[unsafe(no_mangle)]
-pub extern "C" fn perlovasta_chip_read_packed(chip: &mut [u8], register: u8) -> u32
+pub fn perlovasta_chip_read_packed(chip: &mut [u8], register: u8) -> u32
     ensures answer { result ≡ (access_call chip.old 0 register 0).answer }
     ensures chip { chip.new ≡ laid (access_call chip.old 0 register 0).bytes chip.old }
 {
@@ -27,8 +25,7 @@ pub extern "C" fn perlovasta_chip_read_packed(chip: &mut [u8], register: u8) -> 
 }
 
 // The same of a write.
-#[unsafe(no_mangle)]
-pub extern "C" fn perlovasta_chip_write_packed(chip: &mut [u8], register: u8, value: u8) -> u32
+pub fn perlovasta_chip_write_packed(chip: &mut [u8], register: u8, value: u8) -> u32
     ensures answer { result ≡ (access_call chip.old 1 register value).answer }
     ensures chip { chip.new ≡ laid (access_call chip.old 1 register value).bytes chip.old }
 {
@@ -36,8 +33,7 @@ pub extern "C" fn perlovasta_chip_write_packed(chip: &mut [u8], register: u8, va
 }
 
 // The same of an event.
-#[unsafe(no_mangle)]
-pub extern "C" fn perlovasta_chip_event_packed(chip: &mut [u8], event: u8, argument: u8) -> u32
+pub fn perlovasta_chip_event_packed(chip: &mut [u8], event: u8, argument: u8) -> u32
     ensures answer { result ≡ (access_call chip.old 2 event argument).answer }
     ensures chip { chip.new ≡ laid (access_call chip.old 2 event argument).bytes chip.old }
 {
@@ -45,8 +41,7 @@ pub extern "C" fn perlovasta_chip_event_packed(chip: &mut [u8], event: u8, argum
 }
 
 // A job on this controller, as `perlovasta_job` runs one on a fresh one.
-#[unsafe(no_mangle)]
-pub extern "C" fn perlovasta_chip_job(
+pub fn perlovasta_chip_job(
     chip: &mut [u8],
     kind: u8,
     address: u8,

@@ -11,8 +11,7 @@ use requests::jobs::fresh_enabled;
 
 // One job on a fresh controller enabled by 40h; it returns the answer. The report begins with 12 bytes: the answer, the number beside it, the count, how
 // many bytes were sent, and the events used as eight bytes, low byte first. 21 where the report is shorter: nothing is done then.
-#[unsafe(no_mangle)]
-pub extern "C" fn perlovasta_job(
+pub fn perlovasta_job(
     kind: u8,
     address: u8,
     n: u8,
@@ -58,8 +57,7 @@ pub extern "C" fn perlovasta_job(
 
 // One trace of three-byte groups on a fresh controller: 0. The log begins with eight bytes for each group. 21 where the trace is not
 // whole groups of the kinds 0 to 2, or the log has no room: nothing is written then.
-#[unsafe(no_mangle)]
-pub extern "C" fn perlovasta_trace(trace: &[u8], log: &mut [u8]) -> u8
+pub fn perlovasta_trace(trace: &[u8], log: &mut [u8]) -> u8
     ensures answer { result ≡ (trace_call trace.now (length log.old)).answer }
     ensures logged { log.new ≡ laid (trace_call trace.now (length log.old)).logged log.old }
 {

@@ -171,7 +171,7 @@
 //!
 //! The build links libdock.a from the folder that the environment variable `PERLOVASTA_LIB_DIR`
 //! names, a relative one from the repository's root; without it, or where it is empty, from where
-//! `rt staticlib dock` puts it. It is built for x86-64 Linux.
+//! `sh tests/build library dock` puts it. It is built for x86-64 Linux.
 
 #![no_std]
 #![deny(unsafe_code)]

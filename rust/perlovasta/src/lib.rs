@@ -135,7 +135,7 @@
 //!
 //! The build links libperlovasta.a from the folder that the environment variable
 //! `PERLOVASTA_LIB_DIR` names, a relative one from the repository's root; without it, or where it
-//! is empty, from where `rt staticlib perlovasta` puts it. It is built for x86-64 Linux.
+//! is empty, from where `sh tests/build library perlovasta` puts it. It is built for x86-64 Linux.
 
 #![no_std]
 #![deny(unsafe_code)]

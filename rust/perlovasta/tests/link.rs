@@ -26,7 +26,7 @@ fn one_target() {
 #[test]
 fn remedies() {
     let unset = link::remedy("dock", false);
-    assert!(unset.contains("rt staticlib dock") && !unset.contains("unset it"));
+    assert!(unset.contains("sh tests/build library dock") && !unset.contains("unset it"));
     assert!(link::remedy("dock", true).ends_with("PERLOVASTA_LIB_DIR, or unset it"));
 }
 
