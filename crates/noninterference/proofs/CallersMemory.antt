@@ -6,7 +6,8 @@ use lib.ListN.{length, drop}
 use lib.Seq.{drop-append_seam}
 use Rattle.controller.specs.declared.record.Controller.{Controller}
 use Rattle.driver.specs.Run.{Report, job_of}
-use Rattle.noninterference.proofs.Theorem.{request_same, job_carries, step_same, alike-twins}
+use Rattle.noninterference.proofs.Items.{request_same, job_carries, step_same}
+use Rattle.noninterference.proofs.Theorem.{alike-twins}
 use Rattle.noninterference.proofs.Twin.{Twin}
 use Rattle.noninterference.specs.CallersMemory.{SameFirstBytes, SameCalls, StaysAlike, CallersMemory}
 use Rattle.noninterference.specs.OldBytes.{GivenJob, Seen, answered, worked, AlikeButForPlaces}
