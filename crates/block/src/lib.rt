@@ -51,7 +51,8 @@ pub fn read_block(c: Controller, bytes: &mut [u8]) -> Controller
     while i < bytes.len() {
         let hand = next.hand;
         let mut byte = 0;
-        if hand < end {
+        let within = hand < end;
+        if within {
             let at = hand as usize;
             byte = next.buffer[at];
             next.hand = hand + 1;

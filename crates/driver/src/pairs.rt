@@ -75,7 +75,8 @@ pub(crate) fn run_pairs(
         }
         let turn = c.turn;
         let status = turn.status();
-        if status == 0xF8 {
+        let idle = status == 0xF8;
+        if idle {
             continue;
         }
         p = work_at(job, payload, status, p.reach(c, events));

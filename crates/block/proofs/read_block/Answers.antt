@@ -11,20 +11,20 @@ use Rattle.block.proofs.Rounds.{read_one, read_done, lay_all, lay_one, lay_done}
 use Rattle.notation.proofs.Overlay.{at_start}
 use Rattle.notation.specs.Overlay.{laid_at}
 use Rattle.block.proofs.read_block.Goals as goal
-use Rattle.block.proofs.read_block.Goals.{Joined-hand-end, then-hand-end, else-hand-end}
+use Rattle.block.proofs.read_block.Goals.{Joined-within, then-within, else-within}
 
 -- where the two ways meet: the record and byte are those of one read
-joined : (c : Joined-hand-end) →
-    Gives (read_of c.loop-i.next 1) c.if-hand-end.next c.if-hand-end.byte × (reach_of c.if-hand-end.next ≡ reach_of c.loop-i.next)
+joined : (c : Joined-within) →
+    Gives (read_of c.loop-i.next 1) c.if-within.next c.if-within.byte × (reach_of c.if-within.next ≡ reach_of c.loop-i.next)
 joined c =
     let l = c.loop-i in
-    elim c.if-hand-end.branch [
-      | then-hand-end w ↦
-          let below : l.next.hand < reach_of l.next = omega (arith, l.invariant.2, w.if-hand-end.true) in
+    elim c.if-within.branch [
+      | then-within w ↦
+          let below : l.next.hand < reach_of l.next = omega (arith, l.invariant.2, w.if-within.true) in
           let g = read-inside l.next below in
           ((g.0 ∙ sym w.next-is, g.1 ∙ sym w.byte-is), ap reach_of w.next-is ∙ reach_stays l.next l.next.buffer l.next.armed below)
-      | else-hand-end w ↦
-          let g = read-outside l.next (omega (arith, l.invariant.2, w.if-hand-end.false)) in
+      | else-within w ↦
+          let g = read-outside l.next (omega (arith, l.invariant.2, w.if-within.false)) in
           ((g.0 ∙ sym w.next-is, g.1 ∙ sym w.byte-is), ap reach_of w.next-is)
     ]
 
@@ -47,11 +47,11 @@ loop-i-preserved c =
     let j = joined c in
     let below : l.i < n = omega (arith, l.invariant.1) in (
       omega arith,
-      length-set l.bytes l.i c.if-hand-end.byte ∙ l.invariant.1,
+      length-set l.bytes l.i c.if-within.byte ∙ l.invariant.1,
       j.1 ∙ l.invariant.2,
       l.invariant.3,
       ap (after_reads (n - (l.i + 1))) (sym j.0.0) ∙ sym (read_one n l.i l.next below) ∙ l.invariant.4,
-      lay_one n l.i l.next c.if-hand-end.next c.if-hand-end.byte l.bytes j.0 below l.invariant.1 ∙ l.invariant.5,
+      lay_one n l.i l.next c.if-within.next c.if-within.byte l.bytes j.0 below l.invariant.1 ∙ l.invariant.5,
     )
 
 pub shape_of-bytes : goal.shape_of-bytes
