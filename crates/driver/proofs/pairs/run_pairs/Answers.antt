@@ -236,7 +236,7 @@ loop-i-preserved-then-idle c =
     let other = c.in_default.in_default-own.rest in
     let not-reset = ne_eqb (number m) 14 other.0.1 in
     let not_stop = ne_eqb (number m) 4 other.1 in
-    let idle = sym (given-status m) ∙ ap (λ (n : ℕ). eqb n 0xF8) (sym c.status-status.ensures) ∙ c.if-idle.true-raw in
+    let idle = sym (given-status m) ∙ ap (λ (n : ℕ). eqb n 0xF8) (sym c.status-status.ensures ∙ c.if-idle.true) in
     let served = same m ∙ sym (at-idle (table m) (number m) (given m) not-reset not_stop (given-sound m) idle) in (
       omega (arith, another-pair m),
       omega (arith, l.invariant.1),
@@ -270,7 +270,7 @@ loop-i-preserved c =
     let not-reset = ne_eqb (number m) 14 other.0.1 in
     let not_stop = ne_eqb (number m) 4 other.1 in
     let status = c.status-status in
-    let other-status = c.if-idle.false-raw in
+    let other-status = ne_eqb status.result 0xF8 c.if-idle.false in
     let busy = sym (given-status m) ∙ ap (λ (n : ℕ). eqb n 0xF8) (sym status.ensures) ∙ other-status in
     let q = c.work_at-p.result in
     let served = works m c.work_at-p.ensures c.reach.ensures status.ensures
@@ -372,7 +372,7 @@ returns-then-p c =
     let not-reset = ne_eqb (number m) 14 other.0.1 in
     let not_stop = ne_eqb (number m) 4 other.1 in
     let status = c.status-status in
-    let other-status = c.if-idle.false-raw in
+    let other-status = ne_eqb status.result 0xF8 c.if-idle.false in
     let busy = sym (given-status m) ∙ ap (λ (n : ℕ). eqb n 0xF8) (sym status.ensures) ∙ other-status in
     let q = c.work_at-p.result in
     let served = works m c.work_at-p.ensures c.reach.ensures status.ensures
