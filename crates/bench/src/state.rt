@@ -5,7 +5,6 @@ use console::ward_log::put_ward_note;
 use control::turn::{Called, Edge, Turn};
 use controller::record::Controller;
 use controller::reply::Reply;
-use std::io;
 use text::put::{put_decimal, put_hex, put_listed, put_word};
 
 // Document 01's name of a turn.
@@ -104,7 +103,7 @@ pub(crate) fn print_reply(
     place: u8,
     value: u8,
     reply: Reply,
-) -> io::Result<()> {
+) {
     let mut line = [0u8; 160];
     let answer = reply.answer;
     let c = reply.controller;
@@ -115,23 +114,23 @@ pub(crate) fn print_reply(
     let at = put_state(&mut line, at, c);
     let at = put_ward_note(&mut line, at, before, kind, place, value, refused);
     let end = put_word(&mut line, at, b"\n");
-    print(rt, &line, end)
+    print(rt, &line, end);
 }
 
 // The line for the record after a job.
-pub(crate) fn print_state(rt: &impl Print, c: Controller) -> io::Result<()> {
+pub(crate) fn print_state(rt: &impl Print, c: Controller) {
     let mut line = [0u8; 160];
     let at = put_state(&mut line, 0, c);
     let end = put_word(&mut line, at, b"\n");
-    print(rt, &line, end)
+    print(rt, &line, end);
 }
 
 // The line for the buffer.
-pub(crate) fn print_buffer(rt: &impl Print, c: Controller) -> io::Result<()> {
+pub(crate) fn print_buffer(rt: &impl Print, c: Controller) {
     let mut line = [0u8; 256];
     let buffer = c.buffer;
     let at = put_word(&mut line, 0, b"buffer");
     let at = put_listed(&mut line, at, &buffer);
     let end = put_word(&mut line, at, b"\n");
-    print(rt, &line, end)
+    print(rt, &line, end);
 }
