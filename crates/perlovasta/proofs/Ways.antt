@@ -1,7 +1,7 @@
 -- One group worked in place: on each way through it, the answer and the record that are left are what the definition gives.
 -- Assumes nothing.
 use mathlib.Core.List.{[], ◌∷◌}
-use mathlib.Core.Logic.{◌⊎◌, ⊎_elim}
+use mathlib.Core.Logic.{⊎_elim}
 use mathlib.Core.Path.{◌≡◌, refl}
 use Prim.Native.Nat.{ℕ}
 use native.Mathlib.Omega.{arith}
@@ -23,11 +23,6 @@ use Rattle.controller.specs.declared.record.Controller.{Controller}
 use Rattle.notation.specs.Choice.{when◌then◌else◌}
 use Rattle.requests.specs.Groups.{group_of}
 use Rattle.perlovasta.specs.Log.{leaves}
-
--- what holds on the first way and on the others holds where they meet
-infixr 4 ◌or-else◌
-pub ◌or-else◌ : {A B C : Type 0} → (A → C) → (B → C) → A ⊎ B → C
-◌or-else◌ = ⊎_elim
 
 module _ {E : Type 0} (after : Controller → E → Outcome) (c : Controller) where
   -- the rule answered e, which was found to be f; with the answer to e and the record after f the outcome is o
