@@ -86,6 +86,8 @@ impl Controller {
         }
     }
 
+    // (Always inlined: a caller lays down no copy of its record to pass it, and the library keeps within its promise of stack.)
+    #[inline(always)]
     pub(crate) fn write_control(self, value: u8) -> ControlEffect
         ensures { after_control self result ≡ write_control self value }
     {
