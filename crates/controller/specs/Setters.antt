@@ -1,5 +1,5 @@
--- The record with one item changed. Plumbing: a definition has no record update, so each setter gives all items to one maker, and a new
--- item of the record is one word a line here.
+-- The record with one item changed. Plumbing: each setter gives all items to one maker, so that a new item of the record is one word a
+-- line here.
 use Rattle.std.specs.Prelude.{Bool, List, ℕ, set}
 use Rattle.control.specs.declared.flags.Control.{Control}
 use Rattle.control.specs.declared.reason.Reason.{Reason}
