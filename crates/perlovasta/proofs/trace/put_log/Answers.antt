@@ -41,30 +41,80 @@ unfolding after_read after_write after_event refuses accepts wrote waits_for int
 joined c =
     let d = c.loop-i.c in
     elim c.match-trace-i.branch [
-      | in-0+in-Advanced w ↦ was_read d _ _ _ w.in-0.is w.read_effect-effect.ensures (w.answer-answer.ensures.refused, w.answer-answer.ensures.value) w.answer-is w.in-Advanced.is w.c-is
+      | in-0+in-Advanced w ↦
+          was_read d _ _ _ w.in-0.is w.read_effect-effect.ensures
+          (w.answer-answer.ensures.refused, w.answer-answer.ensures.value) w.answer-is w.in-Advanced.is w.c-is
       | in-0+in_default-effect w ↦
-          was_read d _ _ _ {e = w.read_effect-effect.result} w.in-0.is w.read_effect-effect.ensures (w.answer-answer.ensures.refused, w.answer-answer.ensures.value) w.answer-is refl
+          was_read d _ _ _ {e = w.read_effect-effect.result} w.in-0.is w.read_effect-effect.ensures
+          (w.answer-answer.ensures.refused, w.answer-answer.ensures.value) w.answer-is refl
           (w.c-is ∙ read_kept d w.read_effect-effect.result (opened w.in_default-effect.in_default-effect-own.keys2))
-      | in-1+in-Refused w ↦ was-written d _ _ _ w.in-1.is w.write_effect-effect.ensures (w.answer-answer-in-1.ensures.refused, w.answer-answer-in-1.ensures.value) w.answer-is w.in-Refused.is w.c-is
-      | in-1+in-Pointed w ↦ was-written d _ _ _ w.in-1.is w.write_effect-effect.ensures (w.answer-answer-in-1.ensures.refused, w.answer-answer-in-1.ensures.value) w.answer-is w.in-Pointed.is (w.c-is ∙ w.pointed-c.ensures)
-      | in-1+in-Loaded w ↦ was-written d _ _ _ w.in-1.is w.write_effect-effect.ensures (w.answer-answer-in-1.ensures.refused, w.answer-answer-in-1.ensures.value) w.answer-is w.in-Loaded.is (w.c-is ∙ w.loaded-c.ensures)
-      | in-1+in-Registered w ↦ was-written d _ _ _ w.in-1.is w.write_effect-effect.ensures (w.answer-answer-in-1.ensures.refused, w.answer-answer-in-1.ensures.value) w.answer-is w.in-Registered.is (w.c-is ∙ w.registered-c.ensures)
-      | in-1+in-Armed w ↦ was-written d _ _ _ w.in-1.is w.write_effect-effect.ensures (w.answer-answer-in-1.ensures.refused, w.answer-answer-in-1.ensures.value) w.answer-is w.in-Armed.is w.c-is
-      | in-1+in-Set w ↦ was-written d _ _ _ w.in-1.is w.write_effect-effect.ensures (w.answer-answer-in-1.ensures.refused, w.answer-answer-in-1.ensures.value) w.answer-is w.in-Set.is (w.c-is ∙ w.set-c.ensures)
-      | in-1+in-Reset w ↦ was-written d _ _ _ w.in-1.is w.write_effect-effect.ensures (w.answer-answer-in-1.ensures.refused, w.answer-answer-in-1.ensures.value) w.answer-is w.in-Reset.is (w.c-is ∙ w.reset-c.ensures)
-      | in_default+in-Refused-effect w ↦ was-event d _ _ _ w.in_default.in_default-own.rest w.event_effect-effect.ensures (w.answer-answer-in_default.ensures.refused, w.answer-answer-in_default.ensures.value) w.answer-is w.in-Refused-effect.is w.c-is
-      | in_default+in-Unchanged w ↦ was-event d _ _ _ w.in_default.in_default-own.rest w.event_effect-effect.ensures (w.answer-answer-in_default.ensures.refused, w.answer-answer-in_default.ensures.value) w.answer-is w.in-Unchanged.is w.c-is
-      | in_default+in-Listen w ↦ was-event d _ _ _ w.in_default.in_default-own.rest w.event_effect-effect.ensures (w.answer-answer-in_default.ensures.refused, w.answer-answer-in_default.ensures.value) w.answer-is w.in-Listen.is (w.c-is ∙ w.turned-c.ensures)
-      | in_default+in-Busy w ↦ was-event d _ _ _ w.in_default.in_default-own.rest w.event_effect-effect.ensures (w.answer-answer-in_default.ensures.refused, w.answer-answer-in_default.ensures.value) w.answer-is w.in-Busy.is (w.c-is ∙ w.turned-c-in-Busy.ensures)
-      | in_default+in-Free w ↦ was-event d _ _ _ w.in_default.in_default-own.rest w.event_effect-effect.ensures (w.answer-answer-in_default.ensures.refused, w.answer-answer-in_default.ensures.value) w.answer-is w.in-Free.is (w.c-is ∙ w.turned-c-in-Free.ensures)
-      | in_default+in-Stopped w ↦ was-event d _ _ _ w.in_default.in_default-own.rest w.event_effect-effect.ensures (w.answer-answer-in_default.ensures.refused, w.answer-answer-in_default.ensures.value) w.answer-is w.in-Stopped.is (w.c-is ∙ w.stopped-c.ensures)
-      | in_default+in-Interrupts w ↦ was-event d _ _ _ w.in_default.in_default-own.rest w.event_effect-effect.ensures (w.answer-answer-in_default.ensures.refused, w.answer-answer-in_default.ensures.value) w.answer-is w.in-Interrupts.is (w.c-is ∙ w.interrupted-c.ensures)
-      | in_default+in-Sent w ↦ was-event d _ _ _ w.in_default.in_default-own.rest w.event_effect-effect.ensures (w.answer-answer-in_default.ensures.refused, w.answer-answer-in_default.ensures.value) w.answer-is w.in-Sent.is w.c-is
-      | in_default+in-SentLast w ↦ was-event d _ _ _ w.in_default.in_default-own.rest w.event_effect-effect.ensures (w.answer-answer-in_default.ensures.refused, w.answer-answer-in_default.ensures.value) w.answer-is w.in-SentLast.is (w.c-is ∙ w.ended-c.ensures)
-      | in_default+in-Received w ↦ was-event d _ _ _ w.in_default.in_default-own.rest w.event_effect-effect.ensures (w.answer-answer-in_default.ensures.refused, w.answer-answer-in_default.ensures.value) w.answer-is w.in-Received.is (w.c-is ∙ rw w.cursor-cursor.ensures)
-      | in_default+in-ReceivedLast w ↦ was-event d _ _ _ w.in_default.in_default-own.rest w.event_effect-effect.ensures (w.answer-answer-in_default.ensures.refused, w.answer-answer-in_default.ensures.value) w.answer-is w.in-ReceivedLast.is (w.c-is ∙ w.ended-c-in-ReceivedLast.ensures ∙ rw w.cursor-cursor-in-ReceivedLast.ensures)
-      | in_default+in-ChangesStatus w ↦ was-event d _ _ _ w.in_default.in_default-own.rest w.event_effect-effect.ensures (w.answer-answer-in_default.ensures.refused, w.answer-answer-in_default.ensures.value) w.answer-is w.in-ChangesStatus.is (w.c-is ∙ w.with_status-c.ensures)
-      | in_default+in-Reset-effect w ↦ was-event d _ _ _ w.in_default.in_default-own.rest w.event_effect-effect.ensures (w.answer-answer-in_default.ensures.refused, w.answer-answer-in_default.ensures.value) w.answer-is w.in-Reset-effect.is (w.c-is ∙ w.reset-c-in-Reset-effect.ensures)
+      | in-1+in-Refused w ↦
+          was-written d _ _ _ w.in-1.is w.write_effect-effect.ensures
+          (w.answer-answer-in-1.ensures.refused, w.answer-answer-in-1.ensures.value) w.answer-is w.in-Refused.is w.c-is
+      | in-1+in-Pointed w ↦
+          was-written d _ _ _ w.in-1.is w.write_effect-effect.ensures
+          (w.answer-answer-in-1.ensures.refused, w.answer-answer-in-1.ensures.value) w.answer-is w.in-Pointed.is (w.c-is ∙ w.pointed-c.ensures)
+      | in-1+in-Loaded w ↦
+          was-written d _ _ _ w.in-1.is w.write_effect-effect.ensures
+          (w.answer-answer-in-1.ensures.refused, w.answer-answer-in-1.ensures.value) w.answer-is w.in-Loaded.is (w.c-is ∙ w.loaded-c.ensures)
+      | in-1+in-Registered w ↦
+          was-written d _ _ _ w.in-1.is w.write_effect-effect.ensures
+          (w.answer-answer-in-1.ensures.refused, w.answer-answer-in-1.ensures.value) w.answer-is w.in-Registered.is (w.c-is ∙ w.registered-c.ensures)
+      | in-1+in-Armed w ↦
+          was-written d _ _ _ w.in-1.is w.write_effect-effect.ensures
+          (w.answer-answer-in-1.ensures.refused, w.answer-answer-in-1.ensures.value) w.answer-is w.in-Armed.is w.c-is
+      | in-1+in-Set w ↦
+          was-written d _ _ _ w.in-1.is w.write_effect-effect.ensures
+          (w.answer-answer-in-1.ensures.refused, w.answer-answer-in-1.ensures.value) w.answer-is w.in-Set.is (w.c-is ∙ w.set-c.ensures)
+      | in-1+in-Reset w ↦
+          was-written d _ _ _ w.in-1.is w.write_effect-effect.ensures
+          (w.answer-answer-in-1.ensures.refused, w.answer-answer-in-1.ensures.value) w.answer-is w.in-Reset.is (w.c-is ∙ w.reset-c.ensures)
+      | in_default+in-Refused-effect w ↦
+          was-event d _ _ _ w.in_default.in_default-own.rest w.event_effect-effect.ensures
+          (w.answer-answer-in_default.ensures.refused, w.answer-answer-in_default.ensures.value) w.answer-is w.in-Refused-effect.is w.c-is
+      | in_default+in-Unchanged w ↦
+          was-event d _ _ _ w.in_default.in_default-own.rest w.event_effect-effect.ensures
+          (w.answer-answer-in_default.ensures.refused, w.answer-answer-in_default.ensures.value) w.answer-is w.in-Unchanged.is w.c-is
+      | in_default+in-Listen w ↦
+          was-event d _ _ _ w.in_default.in_default-own.rest w.event_effect-effect.ensures
+          (w.answer-answer-in_default.ensures.refused, w.answer-answer-in_default.ensures.value) w.answer-is w.in-Listen.is (w.c-is ∙ w.turned-c.ensures)
+      | in_default+in-Busy w ↦
+          was-event d _ _ _ w.in_default.in_default-own.rest w.event_effect-effect.ensures
+          (w.answer-answer-in_default.ensures.refused, w.answer-answer-in_default.ensures.value) w.answer-is w.in-Busy.is
+          (w.c-is ∙ w.turned-c-in-Busy.ensures)
+      | in_default+in-Free w ↦
+          was-event d _ _ _ w.in_default.in_default-own.rest w.event_effect-effect.ensures
+          (w.answer-answer-in_default.ensures.refused, w.answer-answer-in_default.ensures.value) w.answer-is w.in-Free.is
+          (w.c-is ∙ w.turned-c-in-Free.ensures)
+      | in_default+in-Stopped w ↦
+          was-event d _ _ _ w.in_default.in_default-own.rest w.event_effect-effect.ensures
+          (w.answer-answer-in_default.ensures.refused, w.answer-answer-in_default.ensures.value) w.answer-is w.in-Stopped.is (w.c-is ∙ w.stopped-c.ensures)
+      | in_default+in-Interrupts w ↦
+          was-event d _ _ _ w.in_default.in_default-own.rest w.event_effect-effect.ensures
+          (w.answer-answer-in_default.ensures.refused, w.answer-answer-in_default.ensures.value) w.answer-is w.in-Interrupts.is
+          (w.c-is ∙ w.interrupted-c.ensures)
+      | in_default+in-Sent w ↦
+          was-event d _ _ _ w.in_default.in_default-own.rest w.event_effect-effect.ensures
+          (w.answer-answer-in_default.ensures.refused, w.answer-answer-in_default.ensures.value) w.answer-is w.in-Sent.is w.c-is
+      | in_default+in-SentLast w ↦
+          was-event d _ _ _ w.in_default.in_default-own.rest w.event_effect-effect.ensures
+          (w.answer-answer-in_default.ensures.refused, w.answer-answer-in_default.ensures.value) w.answer-is w.in-SentLast.is (w.c-is ∙ w.ended-c.ensures)
+      | in_default+in-Received w ↦
+          was-event d _ _ _ w.in_default.in_default-own.rest w.event_effect-effect.ensures
+          (w.answer-answer-in_default.ensures.refused, w.answer-answer-in_default.ensures.value) w.answer-is w.in-Received.is
+          (w.c-is ∙ rw w.cursor-cursor.ensures)
+      | in_default+in-ReceivedLast w ↦
+          was-event d _ _ _ w.in_default.in_default-own.rest w.event_effect-effect.ensures
+          (w.answer-answer-in_default.ensures.refused, w.answer-answer-in_default.ensures.value) w.answer-is w.in-ReceivedLast.is
+          (w.c-is ∙ w.ended-c-in-ReceivedLast.ensures ∙ rw w.cursor-cursor-in-ReceivedLast.ensures)
+      | in_default+in-ChangesStatus w ↦
+          was-event d _ _ _ w.in_default.in_default-own.rest w.event_effect-effect.ensures
+          (w.answer-answer-in_default.ensures.refused, w.answer-answer-in_default.ensures.value) w.answer-is w.in-ChangesStatus.is
+          (w.c-is ∙ w.with_status-c.ensures)
+      | in_default+in-Reset-effect w ↦
+          was-event d _ _ _ w.in_default.in_default-own.rest w.event_effect-effect.ensures
+          (w.answer-answer-in_default.ensures.refused, w.answer-answer-in_default.ensures.value) w.answer-is w.in-Reset-effect.is
+          (w.c-is ∙ w.reset-c-in-Reset-effect.ensures)
     ]
 
 -- so the record there is sound
