@@ -5,8 +5,8 @@ ghost use Rattle.address.specs.Matching.{calls_all, calls_own, call_of, match_of
 
 use crate::number::{Address, AddressByte, Direction};
 
-// What an address byte calls here.
-#[derive(Clone, Copy)]
+// What an address byte calls here. (No Option: "none" is one of the answers that request 5 lists.)
+#[derive(Clone, Copy, Debug, PartialEq, Eq)]
 pub enum Match {
     Own(Direction),
     General,
@@ -14,7 +14,7 @@ pub enum Match {
 }
 
 // What the match answers: what was called and, in every case, the seven-bit address of the byte.
-#[derive(Clone, Copy)]
+#[derive(Clone, Copy, Debug, PartialEq, Eq)]
 pub struct AddressMatch {
     pub call: Match,
     pub address: Address,
@@ -59,7 +59,8 @@ fn match_call(i2cadr: u8, aa: bool, byte: AddressByte) -> Match
 pub fn match_address(i2cadr: u8, aa: bool, byte: AddressByte) -> AddressMatch
     ensures { result ≡ match_of i2cadr aa byte }
 {
-    let call = match_call(i2cadr, aa, byte);
-    let address = byte.address();
-    AddressMatch { call, address }
+    AddressMatch {
+        call: match_call(i2cadr, aa, byte),
+        address: byte.address(),
+    }
 }

@@ -1,30 +1,28 @@
-// The seven-bit address and the address byte: two kinds of number. The functions here convert one into the other.
+// The seven-bit address and the address byte: two kinds of number. The functions here convert one into the other. (By name and no `From`: document 01
+// wants them "converted by proved functions only", and an address byte gives two things, an address and a direction.)
 ghost use Rattle.std.specs.Prelude.{◌≡◌};
 ghost use Rattle.address.specs.Number.{bit_of, byte_of, address_of, direction_of};
 
 // A seven-bit address.
-#[derive(Clone, Copy)]
+#[derive(Clone, Copy, Debug, PartialEq, Eq)]
 pub struct Address(pub u8);
 
 // An address byte: 2 x address + R.
-#[derive(Clone, Copy)]
+#[derive(Clone, Copy, Debug, PartialEq, Eq)]
 pub struct AddressByte(pub u8);
 
 // R: 0 for a write, 1 for a read.
-#[derive(Clone, Copy)]
+#[derive(Clone, Copy, Debug, PartialEq, Eq)]
 pub enum Direction {
-    Write,
-    Read,
+    Write = 0,
+    Read = 1,
 }
 
 impl Direction {
     pub fn bit(self) -> u8
         ensures { result ≡ bit_of self }
     {
-        match self {
-            Direction::Write => 0,
-            Direction::Read => 1,
-        }
+        self as u8
     }
 }
 
@@ -32,9 +30,7 @@ impl Address {
     pub fn byte(self, direction: Direction) -> AddressByte
         ensures { result ≡ byte_of self direction }
     {
-        let seven = self.0 % 128;
-        let bit = direction.bit();
-        AddressByte(2 * seven + bit)
+        AddressByte(2 * (self.0 % 128) + direction.bit())
     }
 }
 
@@ -48,8 +44,7 @@ impl AddressByte {
     pub fn direction(self) -> Direction
         ensures { result ≡ direction_of self }
     {
-        let read = self.0 % 2 == 1;
-        if read {
+        if self.0 % 2 == 1 {
             Direction::Read
         } else {
             Direction::Write

@@ -1,7 +1,5 @@
 -- Document 01, Refusals of an access or event: the number and value of each answer.
-use Rattle.std.specs.Prelude.{ℕ}
-use Rattle.answer.specs.declared.Answer.TheVariants.{Accepted, Refused}
-use Rattle.answer.specs.declared.Answer.{Answer}
+use Rattle.std.specs.Prelude.{ℕ, Result, Ok, Err}
 use Rattle.answer.specs.declared.Refusal.TheVariants.{OutOfRange, BadArgument, OnTheWire, Locked, Unlisted, BadCount}
 use Rattle.answer.specs.declared.Refusal.TheVariants.{BufferEnd, Unexpected, Inaccessible, Unsound}
 use Rattle.answer.specs.declared.Refusal.{Refusal}
@@ -20,12 +18,16 @@ refusal_number Unexpected = 8
 refusal_number Inaccessible = 9
 refusal_number Unsound = 10
 
+-- an answer: accepted with a value, or refused
+abbrev pub Answer : Type 0
+Answer = Result ℕ Refusal
+
 -- the number of an answer, 0 where it is accepted
 unfoldable pub refusal_of : Answer → ℕ
-refusal_of (Accepted value) = 0
-refusal_of (Refused why) = refusal_number why
+refusal_of (Ok value) = 0
+refusal_of (Err why) = refusal_number why
 
 -- the value of an answer: "The value returned is 0" of a refusal
 unfoldable pub value_of : Answer → ℕ
-value_of (Accepted value) = value
-value_of (Refused why) = 0
+value_of (Ok value) = value
+value_of (Err why) = 0

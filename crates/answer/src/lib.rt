@@ -6,66 +6,46 @@ pub mod ending;
 ghost use Rattle.std.specs.Prelude.{◌≡◌};
 ghost use Rattle.answer.specs.Refusal.{refusal_number, refusal_of, value_of};
 
-// Why an access or event is refused.
-#[derive(Clone, Copy)]
+// Why an access or event is refused, with the number in document 01's table.
+#[derive(Clone, Copy, Debug, PartialEq, Eq)]
 pub enum Refusal {
-    OutOfRange,
-    BadArgument,
-    OnTheWire,
-    Locked,
-    Unlisted,
-    BadCount,
-    BufferEnd,
-    Unexpected,
-    Inaccessible,
-    Unsound,
-}
-
-#[derive(Clone, Copy)]
-pub enum Answer {
-    // The value.
-    Accepted(u8),
-    Refused(Refusal),
+    OutOfRange = 1,
+    BadArgument = 2,
+    OnTheWire = 3,
+    Locked = 4,
+    Unlisted = 5,
+    BadCount = 6,
+    BufferEnd = 7,
+    Unexpected = 8,
+    Inaccessible = 9,
+    Unsound = 10,
 }
 
 impl Refusal {
-    // The number in document 01's table.
+    // (A method, as the other numbers here, and no `From`: the paper calls it the number, and so does each call.)
     pub fn number(self) -> u8
         ensures { result ≡ refusal_number self }
     {
-        match self {
-            Refusal::OutOfRange => 1,
-            Refusal::BadArgument => 2,
-            Refusal::OnTheWire => 3,
-            Refusal::Locked => 4,
-            Refusal::Unlisted => 5,
-            Refusal::BadCount => 6,
-            Refusal::BufferEnd => 7,
-            Refusal::Unexpected => 8,
-            Refusal::Inaccessible => 9,
-            Refusal::Unsound => 10,
-        }
+        self as u8
     }
 }
 
-impl Answer {
-    // The refusal's number, 0 where it is accepted.
-    pub fn refused(self) -> u8
-        ensures { result ≡ refusal_of self }
-    {
-        match self {
-            Answer::Accepted(_) => 0,
-            Answer::Refused(why) => why.number(),
-        }
-    }
+// What an access or event answers: the value, or why it is refused.
+pub type Answer = Result<u8, Refusal>;
 
-    // The value, 0 where it is refused.
-    pub fn value(self) -> u8
-        ensures { result ≡ value_of self }
-    {
-        match self {
-            Answer::Accepted(value) => value,
-            Answer::Refused(_) => 0,
-        }
+// The refusal's number, 0 where it is accepted.
+pub fn refusal_of(answer: Answer) -> u8
+    ensures { result ≡ refusal_of answer }
+{
+    match answer {
+        Ok(_) => 0,
+        Err(why) => why.number(),
     }
+}
+
+// The value, 0 where it is refused.
+pub fn value_of(answer: Answer) -> u8
+    ensures { result ≡ value_of answer }
+{
+    answer.unwrap_or(0)
 }

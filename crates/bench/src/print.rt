@@ -1,10 +1,9 @@
 // Standard output.
 use std::io;
 use std::io::Write;
+use text::Text;
 
-// Writes the text's first bytes.
-pub(crate) fn print(rt: &impl Print, text: &[u8], end: usize) {
-    if end <= text.len() {
-        let _ = io::writer(rt).write_all(&text[..end]);
-    }
+// Writes the text. (A write that fails is passed over.)
+pub(crate) fn print<const N: usize>(rt: &impl Print, text: &Text<N>) {
+    let _ = io::writer(rt).write_all(text.as_bytes());
 }

@@ -1,94 +1,82 @@
 // A trace: groups worked one after the other on a fresh controller.
-use crate::extent::{group_size, is_bad};
-use crate::jobs::work_job;
-use crate::state::{print_buffer, print_reply};
+ghost use Rattle.std.specs.Prelude.{◌≤◌, length};
+
+use crate::group::{Group, is_bad, split_group};
+use crate::print::print;
+use crate::state::{print_buffer, print_reply, print_state};
+use console::tell::tell_job;
 use controller::record::Controller;
 use requests::groups::access;
+use text::Text;
 
 // The longest trace.
 const LIMIT: usize = 65536;
 
-// How far the groups of a trace were worked.
-#[derive(Clone, Copy)]
-struct Worked {
-    controller: Controller,
-    at: usize,
+// One group: the record after it. Of a job its three lines are printed and the state after it.
+fn work_group(rt: &impl Print, c: Controller, group: Group<'_>) -> Controller {
+    match group {
+        Group::Access { kind, place, value } => {
+            let reply = access(c, kind, place, value);
+            print_reply(rt, &c, kind, place, value, &reply);
+            reply.controller
+        }
+        Group::Job {
+            job,
+            payload,
+            script,
+        } => {
+            let mut text: Text<1024> = Text::new();
+            let next = tell_job(c, job, payload, script, &mut text);
+            print(rt, &text);
+            print_state(rt, &next);
+            next
+        }
+    }
 }
 
-// One whole group: the record after it.
-fn work_group(rt: &impl Print, c: Controller, group: &[u8]) -> Controller {
-    if group.len() < 3 {
-        return c;
-    }
-    if group[0] == 3 {
-        return work_job(rt, c, group);
-    }
-    let reply = access(c, group[0], group[1], group[2]);
-    print_reply(rt, c, group[0], group[1], group[2], reply);
-    reply.controller
-}
-
-// Works the groups from `from` on, up to the first that is cut short or of another kind.
-fn work_all(rt: &impl Print, trace: &[u8], start: Controller, from: usize) -> Worked {
+// Works the groups up to the first that is cut short or of another kind: the record after them, and what is left of the trace.
+fn work_all<'a>(rt: &impl Print, start: Controller, groups: &'a [u8]) -> (Controller, &'a [u8])
+    ensures { length result.1.now ≤ length groups.now }
+{
     let mut c = start;
-    let mut at = from;
-    while at < trace.len() {
-        let size = group_size(&trace[at..]);
-        if trace.len() - at < size {
-            break;
-        }
-        if is_bad(&trace[at..]) {
-            break;
-        }
-        c = work_group(rt, c, &trace[at..at + size]);
-        at += size;
+    let mut rest = groups;
+    while let Some((group, after)) = split_group(rest) {
+        c = work_group(rt, c, group);
+        rest = after;
     }
-    Worked { controller: c, at }
+    (c, rest)
 }
 
-// The trace as far as it is looked at.
-fn within(trace: &[u8]) -> &[u8] {
-    if LIMIT < trace.len() {
-        &trace[..LIMIT]
-    } else {
-        trace
+// Works the trace's groups on a fresh controller. A first group 04 V: every place of its buffer holds V.
+fn work_from_start<'a>(rt: &impl Print, trace: &'a [u8]) -> (Controller, &'a [u8])
+    ensures { length result.1.now ≤ length trace.now }
+{
+    let fresh = Controller::fresh();
+    match trace {
+        [4, filling, _, groups @ ..] => work_all(
+            rt,
+            Controller {
+                buffer: [*filling; 68],
+                ..fresh
+            },
+            groups,
+        ),
+        _ => work_all(rt, fresh, trace),
     }
 }
 
-// A first group 04 V: every place of the buffer holds V.
-fn work_from_start(rt: &impl Print, trace: &[u8]) -> Worked {
-    let mut start = Controller::fresh();
-    if 3 <= trace.len() {
-        if trace[0] == 4 {
-            start.buffer = [trace[1]; 68];
-            return work_all(rt, trace, start, 3);
-        }
-    }
-    work_all(rt, trace, start, 0)
-}
-
-// The place of the first group that was not worked.
-fn print_bad(rt: &impl Print, at: usize) {
-    let _ = println!(rt; "bad trace at {at}");
-}
-
-// Where the trace went wrong: at a group of another kind, at one that its end cuts, or at the limit.
-fn bad_place(trace: &[u8], at: usize, over: bool) -> usize {
-    if at < trace.len() {
-        if is_bad(&trace[at..]) {
-            return at;
-        }
-    }
-    if over { LIMIT } else { at }
-}
-
-// Works a trace and prints what it shows.
+// Works a trace and prints what it shows. Where it went wrong: at a group of another kind, at one that its end cuts, or at the limit.
 pub(crate) fn run(rt: &impl Print, whole: &[u8]) {
-    let trace = within(whole);
-    let worked = work_from_start(rt, trace);
+    let trace = &whole[..whole.len().min(LIMIT)];
     let over = LIMIT < whole.len();
-    if worked.at < trace.len() || over {
-        print_bad(rt, bad_place(trace, worked.at, over));
+    let (c, left) = work_from_start(rt, trace);
+    if !left.is_empty() || over {
+        let at = if over && !is_bad(left) {
+            LIMIT
+        } else {
+            trace.len() - left.len()
+        };
+        let _ = println!(rt; "bad trace at {at}");
     }
-    print_buffer(rt, worked.controller);
+    print_buffer(rt, &c);
 }

@@ -1,37 +1,31 @@
 -- Document 01, Jobs, the program: the three lines printed of a job.
-use Rattle.std.specs.Prelude.{List, [], ◌∷◌, ◌++◌, ℕ, eqb}
+use Rattle.std.specs.Prelude.{List, [], ◌++◌, ℕ, eqb, codes}
 use Rattle.text.specs.Text.{decimal_of, listed}
 use Rattle.driver.specs.Run.{Result, Report as JobReport}
 use Rattle.notation.specs.Choice.{when◌then◌else◌}
 
--- The words, as the bytes of their letters.
--- "answer "
+-- The words.
 abbrev pub answer_word : List ℕ
-answer_word = 97 ∷ 110 ∷ 115 ∷ 119 ∷ 101 ∷ 114 ∷ 32 ∷ []
+answer_word = codes "answer "
 
--- " count "
 abbrev pub count_word : List ℕ
-count_word = 32 ∷ 99 ∷ 111 ∷ 117 ∷ 110 ∷ 116 ∷ 32 ∷ []
+count_word = codes " count "
 
--- " events "
 abbrev pub events_word : List ℕ
-events_word = 32 ∷ 101 ∷ 118 ∷ 101 ∷ 110 ∷ 116 ∷ 115 ∷ 32 ∷ []
+events_word = codes " events "
 
--- " refused "
 abbrev pub refused_word : List ℕ
-refused_word = 32 ∷ 114 ∷ 101 ∷ 102 ∷ 117 ∷ 115 ∷ 101 ∷ 100 ∷ 32 ∷ []
+refused_word = codes " refused "
 
--- "out"
 abbrev pub out_word : List ℕ
-out_word = 111 ∷ 117 ∷ 116 ∷ []
+out_word = codes "out"
 
--- "in"
 abbrev pub in_word : List ℕ
-in_word = 105 ∷ 110 ∷ []
+in_word = codes "in"
 
 -- the end of a line
 abbrev pub newline : List ℕ
-newline = 10 ∷ []
+newline = codes "\n"
 
 -- a number in decimal; those printed are below 2^64, and 20 digits are enough
 abbrev pub number : ℕ → List ℕ

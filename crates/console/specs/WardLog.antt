@@ -1,5 +1,5 @@
 -- Document 02, request 5: what the ward log says of an address byte.
-use Rattle.std.specs.Prelude.{Bool, List, [], ◌∷◌, ◌++◌, ℕ, eqb}
+use Rattle.std.specs.Prelude.{Bool, List, [], ◌++◌, ℕ, eqb, codes}
 use Rattle.address.specs.declared.matching.AddressMatch.{AddressMatch}
 use Rattle.address.specs.declared.matching.Match.TheVariants.{Own, General, Nothing}
 use Rattle.address.specs.declared.matching.Match.{Match}
@@ -9,17 +9,16 @@ use Rattle.controller.specs.declared.record.Controller.{Controller}
 use Rattle.notation.specs.Choice.{when◌then◌else◌, ◌and◌, ◌or◌}
 use Rattle.text.specs.Text.{hex_of}
 
--- The words, as the bytes of their letters.
--- " called "
+-- The words.
 abbrev pub called_word : List ℕ
-called_word = 32 ∷ 99 ∷ 97 ∷ 108 ∷ 108 ∷ 101 ∷ 100 ∷ 32 ∷ []
+called_word = codes " called "
 
--- "own write ", "own read ", "general ", "none ": what was called, with the direction where there is one
+-- what was called, with the direction where there is one
 unfoldable pub call_word : Match → List ℕ
-call_word (Own Write) = 111 ∷ 119 ∷ 110 ∷ 32 ∷ 119 ∷ 114 ∷ 105 ∷ 116 ∷ 101 ∷ 32 ∷ []
-call_word (Own Read) = 111 ∷ 119 ∷ 110 ∷ 32 ∷ 114 ∷ 101 ∷ 97 ∷ 100 ∷ 32 ∷ []
-call_word General = 103 ∷ 101 ∷ 110 ∷ 101 ∷ 114 ∷ 97 ∷ 108 ∷ 32 ∷ []
-call_word Nothing = 110 ∷ 111 ∷ 110 ∷ 101 ∷ 32 ∷ []
+call_word (Own Write) = codes "own write "
+call_word (Own Read) = codes "own read "
+call_word General = codes "general "
+call_word Nothing = codes "none "
 
 -- ` called own write 70`: what was called, and the seven-bit address
 unfoldable pub match_text : AddressMatch → List ℕ

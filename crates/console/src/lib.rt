@@ -1,8 +1,10 @@
-// What the programs print of a job, of why a move ended, and of an address byte.
+// What the programs read, and what they print of a job, of a turn, of why a move ended, and of an address byte.
 #![tactic(auto)]
 
 mod handed;
+pub mod read;
 pub mod reason;
 pub mod report;
 pub mod tell;
+pub mod turn;
 pub mod ward_log;

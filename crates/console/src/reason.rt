@@ -1,29 +1,32 @@
 // What the record line of a trace says of why a move ended.
+ghost use Rattle.std.specs.Prelude.{◌≡◌};
 ghost use Rattle.console.specs.ReasonText.{reason_word, reason_text};
-ghost use Rattle.text.specs.Text.{Holds};
+ghost use Rattle.text.specs.Text.{appended};
 
 use control::reason::Reason;
-use text::put::put_word;
+use text::Text;
 
 // The reason's word.
-fn put_reason_word(text: &mut [u8], at: usize, reason: Reason) -> usize
-    ensures { Holds at (reason_word reason) text.old text.new result }
+#[tactic(auto, unfolding(crate::specs::ReasonText::reason_word))]
+fn reason_word(reason: Reason) -> &'static [u8]
+    ensures { result.now ≡ reason_word reason }
 {
     match reason {
-        Reason::NoneYet => put_word(text, at, b"none"),
-        Reason::CountReached => put_word(text, at, b"count"),
-        Reason::Nack => put_word(text, at, b"nack"),
-        Reason::Outside => put_word(text, at, b"outside"),
-        Reason::ArbitrationLost => put_word(text, at, b"arbitration"),
-        Reason::Fault => put_word(text, at, b"fault"),
-        Reason::Reset => put_word(text, at, b"reset"),
+        Reason::NoneYet => b"none",
+        Reason::CountReached => b"count",
+        Reason::Nack => b"nack",
+        Reason::Outside => b"outside",
+        Reason::ArbitrationLost => b"arbitration",
+        Reason::Fault => b"fault",
+        Reason::Reset => b"reset",
     }
 }
 
 // ` reason nack`
-pub fn put_reason(text: &mut [u8], at: usize, reason: Reason) -> usize
-    ensures { Holds at (reason_text reason) text.old text.new result }
+#[tactic(auto, using(text::proofs::Appended::puts), unfolding(crate::specs::ReasonText::reason_text))]
+pub fn put_reason<const N: usize>(text: &mut Text<N>, reason: Reason)
+    ensures { text.new ≡ appended N text.old (reason_text reason) }
 {
-    let next = put_word(text, at, b" reason ");
-    put_reason_word(text, next, reason)
+    text.put_word(b" reason ");
+    text.put_word(reason_word(reason));
 }

@@ -1,55 +1,55 @@
 // The three lines of a job.
-ghost use Rattle.console.specs.JobText.{beside as besideText, first_line, bytes_line, job_text};
-ghost use Rattle.text.specs.Text.{Holds};
+ghost use Rattle.std.specs.Prelude.{◌≡◌};
+ghost use Rattle.console.specs.JobText.{beside, first_line, bytes_line, job_text};
+ghost use Rattle.text.specs.Text.{appended};
 ghost use Rattle.answer.specs.Ending.{number_of, beside_of};
 ghost use Rattle.driver.specs.Run.{result_of};
 
 use answer::ending::Ending;
 use driver::result::JobResult;
-use text::put::{put_decimal, put_listed, put_word};
+use text::Text;
 
 // The number beside answer 28.
-fn put_beside(text: &mut [u8], at: usize, ending: Ending) -> usize
-    ensures { Holds at (besideText (number_of ending) (beside_of ending)) text.old text.new result }
+#[tactic(auto, using(text::proofs::Appended::puts, notation::proofs::Cases::cases), unfolding(crate::specs::JobText::beside))]
+fn put_beside<const N: usize>(text: &mut Text<N>, ending: Ending)
+    ensures { text.new ≡ appended N text.old (beside (number_of ending) (beside_of ending)) }
 {
-    let refused = ending.number() == 28;
-    if refused {
-        let next = put_word(text, at, b" refused ");
-        put_decimal(text, next, ending.beside() as usize)
-    } else {
-        at
+    if let Ending::Refused(why) = ending {
+        text.put_word(b" refused ");
+        text.put_decimal(why.number() as usize);
     }
 }
 
 // `answer 0 count 2 events 5`
-fn put_first_line(text: &mut [u8], at: usize, res: JobResult) -> usize
-    ensures { Holds at (first_line (result_of res)) text.old text.new result }
+fn put_first_line<const N: usize>(text: &mut Text<N>, res: &JobResult)
+    ensures { text.new ≡ appended N text.old (first_line (result_of res.now)) }
 {
-    let ending = res.ending;
-    let next = put_word(text, at, b"answer ");
-    let next = put_decimal(text, next, ending.number() as usize);
-    let next = put_word(text, next, b" count ");
-    let next = put_decimal(text, next, res.count as usize);
-    let next = put_word(text, next, b" events ");
-    let next = put_decimal(text, next, res.events);
-    let next = put_beside(text, next, ending);
-    put_word(text, next, b"\n")
+    text.put_word(b"answer ");
+    text.put_decimal(res.ending.number() as usize);
+    text.put_word(b" count ");
+    text.put_decimal(res.count as usize);
+    text.put_word(b" events ");
+    text.put_decimal(res.events);
+    put_beside(text, res.ending);
+    text.put(b'\n');
 }
 
 // A word and bytes.
-fn put_bytes_line(text: &mut [u8], at: usize, word: &[u8], bytes: &[u8]) -> usize
-    ensures { Holds at (bytes_line word.now bytes.now) text.old text.new result }
+#[tactic(auto, using(text::proofs::Appended::puts), unfolding(crate::specs::JobText::bytes_line))]
+fn put_bytes_line<const N: usize>(text: &mut Text<N>, word: &[u8], bytes: &[u8])
+    ensures { text.new ≡ appended N text.old (bytes_line word.now bytes.now) }
 {
-    let next = put_word(text, at, word);
-    let next = put_listed(text, next, bytes);
-    put_word(text, next, b"\n")
+    text.put_word(word);
+    text.put_listed(bytes);
+    text.put(b'\n');
 }
 
 // The three lines.
-pub fn put_job(text: &mut [u8], at: usize, res: JobResult, sent: &[u8], handed: &[u8]) -> usize
-    ensures { Holds at (job_text (result_of res) sent.now handed.now) text.old text.new result }
+#[tactic(auto, using(text::proofs::Appended::puts), unfolding(crate::specs::JobText::job_text))]
+pub fn put_job<const N: usize>(text: &mut Text<N>, res: &JobResult, sent: &[u8], handed: &[u8])
+    ensures { text.new ≡ appended N text.old (job_text (result_of res.now) sent.now handed.now) }
 {
-    let next = put_first_line(text, at, res);
-    let next = put_bytes_line(text, next, b"out", sent);
-    put_bytes_line(text, next, b"in", handed)
+    put_first_line(text, res);
+    put_bytes_line(text, b"out", sent);
+    put_bytes_line(text, b"in", handed);
 }

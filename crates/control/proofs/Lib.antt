@@ -1,2 +1,3 @@
 -- Laws of the turns, cited by the proofs here and above.
 pub mod Turning
+pub mod Weights

@@ -3,23 +3,23 @@ ghost use Rattle.std.specs.Prelude.{◌≡◌};
 ghost use Rattle.control.specs.Reason.{reason_of, reason_number};
 
 // Set with each new status but F8h and by a reset, otherwise kept; a fresh controller has none yet.
-#[derive(Clone, Copy)]
+#[derive(Clone, Copy, Debug, PartialEq, Eq)]
 pub enum Reason {
-    NoneYet,
+    NoneYet = 0,
     // The address byte, or the last data byte of a move, was acknowledged.
-    CountReached,
+    CountReached = 1,
     // A byte was not acknowledged, also the last.
-    Nack,
+    Nack = 2,
     // Another's START or STOP ended a slave reception.
-    Outside,
-    ArbitrationLost,
+    Outside = 3,
+    ArbitrationLost = 4,
     // A bus fault: 00h, 70h or 78h.
-    Fault,
-    Reset,
+    Fault = 5,
+    Reset = 6,
 }
 
 impl Reason {
-    // The reason that a status sets.
+    // The reason that a status sets. (A rule of request 8, and no conversion.)
     pub fn of_status(status: u8) -> Reason
         ensures { result ≡ reason_of status }
     {
@@ -37,14 +37,6 @@ impl Reason {
     pub fn number(self) -> u8
         ensures { result ≡ reason_number self }
     {
-        match self {
-            Reason::NoneYet => 0,
-            Reason::CountReached => 1,
-            Reason::Nack => 2,
-            Reason::Outside => 3,
-            Reason::ArbitrationLost => 4,
-            Reason::Fault => 5,
-            Reason::Reset => 6,
-        }
+        self as u8
     }
 }

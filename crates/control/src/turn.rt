@@ -3,21 +3,21 @@ ghost use Rattle.std.specs.Prelude.{◌≡◌, [], ◌∷◌};
 ghost use Rattle.control.specs.Turn.{host, waits, wire_turns, data_turns, status_of, at38h};
 
 // Which bus condition ended a slave reception. It matters at status A0h alone; the events write `Stop` with every other.
-#[derive(Clone, Copy)]
+#[derive(Clone, Copy, Debug, PartialEq, Eq)]
 pub enum Edge {
     Stop,
     Start,
 }
 
 // By which address the controller was called as a slave receiver.
-#[derive(Clone, Copy)]
+#[derive(Clone, Copy, Debug, PartialEq, Eq)]
 pub enum Called {
     Own,
     General,
 }
 
-// What the controller waits for; Address to Restarting are the wire turns.
-#[derive(Clone, Copy)]
+// What the controller waits for; Address to Restarting are the wire turns. (A status is a number, as the data sheet's codes are.)
+#[derive(Clone, Copy, Debug, PartialEq, Eq)]
 pub enum Turn {
     Off,
     // SI is 1, and the host has the next move (at 38h the bus has it). The status, and at A0h the bus condition.
@@ -49,38 +49,39 @@ impl Turn {
     pub fn interrupts(self) -> bool
         ensures { result ≡ waits self (host ∷ []) }
     {
-        if let Turn::Host(_, _) = self {
-            true
-        } else {
-            false
-        }
+        matches!(self, Turn::Host(_, _))
     }
 
     // Host at 38h: arbitration was lost, and another master has the bus.
     pub fn is_at_38h(self) -> bool
         ensures { result ≡ at38h self }
     {
-        let status = self.status();
-        status == 0x38
+        self.status() == 0x38
     }
 
     // A wire turn (document 01's term): something is under way on the bus.
     pub fn on_wire(self) -> bool
         ensures { result ≡ waits self wire_turns }
     {
-        match self {
-            Turn::Off | Turn::Host(_, _) | Turn::Free | Turn::Busy | Turn::Listen => false,
-            _ => true,
-        }
+        matches!(
+            self,
+            Turn::Address
+                | Turn::Send
+                | Turn::Receive
+                | Turn::SlaveReceive(_)
+                | Turn::SlaveSend
+                | Turn::Stopping
+                | Turn::Restarting
+        )
     }
 
     // Data bytes are moved in this turn.
     pub fn moves_data(self) -> bool
         ensures { result ≡ waits self data_turns }
     {
-        match self {
-            Turn::Send | Turn::Receive | Turn::SlaveReceive(_) | Turn::SlaveSend => true,
-            _ => false,
-        }
+        matches!(
+            self,
+            Turn::Send | Turn::Receive | Turn::SlaveReceive(_) | Turn::SlaveSend
+        )
     }
 }

@@ -1,2 +1,3 @@
 -- Laws of the record, cited by the proofs here and above.
 pub mod SoundParts
+pub mod Outcomes

@@ -1,13 +1,11 @@
 -- Document 01, Writing I2CCON. Where a write with ENSIO 1 leads is `response`, of the crate `control`.
-use Rattle.std.specs.Prelude.{Bool, false, [], ◌∷◌, ℕ, eqb, ltb}
+use Rattle.std.specs.Prelude.{Bool, false, [], ◌∷◌, ℕ, eqb, ltb, Option, Some, None}
 use Rattle.control.specs.Flags.{flags_of}
 use Rattle.control.specs.Turn.{faults, stopping, data_turns, waits, status_of}
 use Rattle.control.specs.Writing.{response}
 use Rattle.control.specs.declared.flags.Control.{Control}
 use Rattle.control.specs.declared.turn.Turn.TheVariants.{Off}
 use Rattle.control.specs.declared.turn.Turn.{Turn}
-use Rattle.control.specs.declared.writing.Response.TheVariants.{Next, Unlisted}
-use Rattle.control.specs.declared.writing.Response.{Response}
 use Rattle.controller.specs.Record.{byte_count}
 use Rattle.controller.specs.Setters.{with_hand, with_moved, with_control, with_turn}
 use Rattle.controller.specs.Registers.{wrote}
@@ -37,9 +35,9 @@ unfoldable pub bad_count : Controller → Control → Turn → Bool
 bad_count c k turn = k.mode and waits turn data_turns and (eqb (byte_count c) 0 or ltb 68 (byte_count c))
 
 -- with ENSIO 1: refusals 5 and 6, or the next turn
-unfoldable pub enabled : Controller → Control → Response → Outcome
-enabled c k Unlisted = refuses c 5
-enabled c k (Next turn) = when bad_count c k turn then refuses c 6 else controlled c k turn
+unfoldable pub enabled : Controller → Control → Option Turn → Outcome
+enabled c k None = refuses c 5
+enabled c k (Some turn) = when bad_count c k turn then refuses c 6 else controlled c k turn
 
 -- "ENSIO 0 leads to Off with STA 0"
 abbrev pub without_start : Control → Control

@@ -9,4 +9,3 @@ pub mod Access
 pub mod Condition
 pub mod Transfer
 pub mod Event
-pub mod Effect

@@ -1,6 +1,6 @@
 -- What an access or event answers (document 01, The controller record, and Refusals of an access or event).
 use Rattle.std.specs.Prelude.{ℕ}
-use Rattle.answer.specs.Refusal.{refusal_of, value_of}
+use Rattle.answer.specs.Refusal.{Answer, refusal_of, value_of}
 use Rattle.control.specs.Reason.{reason_of}
 use Rattle.control.specs.declared.turn.Edge.TheVariants.{Stop}
 use Rattle.control.specs.declared.turn.Edge.{Edge}
@@ -16,8 +16,13 @@ pub record Outcome : Type 0 where
   pub refused : ℕ
   pub value : ℕ
 
+-- a record and an answer, which an access or event left
+unfoldable pub outcome : Controller → Answer → Outcome
+outcome c answer = record { next = c; refused = refusal_of answer; value = value_of answer }
+
+-- the same of a reply
 unfoldable pub outcome_of : Reply → Outcome
-outcome_of r = record { next = r.controller; refused = refusal_of r.answer; value = value_of r.answer }
+outcome_of r = outcome r.controller r.answer
 
 -- refused: "the whole record stays"
 unfoldable pub refuses : Controller → ℕ → Outcome

@@ -25,8 +25,8 @@ counted c = with_moved c (c.moved + 1)
 
 -- a data byte out: "Sending ends at the first NACK or when moved = BC .. Before the end no status is set"
 unfoldable pub data_out : Controller → ℕ → ℕ → ℕ → Outcome
-data_out c argument nackAt done_at =
-    when eqb argument nack then gives (counted c) nackAt (place c (cursor c))
+data_out c argument nack_at done_at =
+    when eqb argument nack then gives (counted c) nack_at (place c (cursor c))
     else when is_last c then gives (counted c) done_at (place c (cursor c))
     else accepts (counted c) (place c (cursor c))
 
@@ -57,9 +57,9 @@ received c byte = counted (with_place c (cursor c) byte)
 
 -- a data byte in: "Receiving ACKs all but the last"; "the answer tells ACK or NACK"
 unfoldable pub data_in : Controller → ℕ → ℕ → ℕ → Outcome
-data_in c byte ackAt nackAt =
+data_in c byte ack_at nack_at =
     when is_last c
-    then (when acknowledges_last c then gives (received c byte) ackAt ack else gives (received c byte) nackAt nack)
+    then (when acknowledges_last c then gives (received c byte) ack_at ack else gives (received c byte) nack_at nack)
     else accepts (received c byte) ack
 
 -- 7. "own SlaveReceive 80h/88h, General Call E0h/E8h"

@@ -1,22 +1,19 @@
 // Any bus event, by its number.
 ghost use Rattle.std.specs.Prelude.{◌≡◌, true, eqb, ltb};
 ghost use Rattle.controller.specs.Record.{sound};
-ghost use Rattle.controller.specs.Effect.{after_event};
-ghost use Rattle.controller.specs.Reply.{outcome_of};
+ghost use Rattle.controller.specs.Reply.{outcome, outcome_of};
 ghost use Rattle.notation.specs.Choice.{◌or◌};
 ghost use Rattle.controller.specs.Event.{bad_argument, event_sound, event_of};
 
-use crate::effect::EventEffect;
 use crate::record::Controller;
 use crate::reply::Reply;
-use answer::Refusal;
+use answer::{Answer, Refusal};
 
 // The number is not 1..14.
 fn is_no_event(number: u8) -> bool
     ensures { result ≡ (eqb number 0 or ltb 14 number) }
 {
-    let none = number == 0;
-    if none { true } else { 14 < number }
+    number == 0 || 14 < number
 }
 
 // The argument is not one that the event takes.
@@ -33,10 +30,10 @@ fn is_bad_argument(number: u8, argument: u8) -> bool
 }
 
 impl Controller {
-    // Events 1 to 13.
-    fn event_sound(self, number: u8, argument: u8) -> EventEffect
-        requires { sound self ≡ true }
-        ensures { after_event self result ≡ event_sound self number argument }
+    // Events 1 to 13. (Of a sound record, as the rules of bytes are: no type has that for an invariant, since `event_of` is of any record, refusal 10.)
+    fn event_sound(&mut self, number: u8, argument: u8) -> Answer
+        requires { sound self.old ≡ true }
+        ensures { outcome self.new result ≡ event_sound self.old number argument }
     {
         match number {
             1 => self.own_start(),
@@ -52,46 +49,38 @@ impl Controller {
             11 => self.data_held(),
             12 => self.clock_held(),
             13 => self.idle(),
-            _ => self.refuse(Refusal::Unexpected),
+            _ => Err(Refusal::Unexpected),
         }
     }
 
-    // What any event with any argument changes, of a sound record.
-    pub fn event_effect(self, number: u8, argument: u8) -> EventEffect
-        requires { sound self ≡ true }
-        ensures { after_event self result ≡ event_of self number argument }
+    // Any event with any argument, of any record, in place. (By numbers and no enum: refusals 1 and 2 are of numbers that name no event.)
+    pub fn on_event(&mut self, number: u8, argument: u8) -> Answer
+        ensures { outcome self.new result ≡ event_of self.old number argument }
     {
         if is_no_event(number) {
-            return EventEffect::Refused(Refusal::OutOfRange);
+            return Err(Refusal::OutOfRange);
         }
         if is_bad_argument(number, argument) {
-            return EventEffect::Refused(Refusal::BadArgument);
+            return Err(Refusal::BadArgument);
         }
-        let pin = number == 14;
-        if pin {
-            return EventEffect::Reset;
+        if number == 14 {
+            self.reset();
+            return Ok(0);
+        }
+        if !self.is_sound() {
+            return Err(Refusal::Unsound);
         }
         self.event_sound(number, argument)
     }
 
-    // Any event with any argument, of any record.
-    pub fn event(self, number: u8, argument: u8) -> Reply
+    // The same of a record by value: the form that document 01 lists.
+    pub fn event(mut self, number: u8, argument: u8) -> Reply
         ensures { outcome_of result ≡ event_of self number argument }
     {
-        if is_no_event(number) {
-            return self.refused(Refusal::OutOfRange);
-        }
-        if is_bad_argument(number, argument) {
-            return self.refused(Refusal::BadArgument);
-        }
-        let pin = number == 14;
-        if pin {
-            return self.reset().accepted(0);
-        }
-        if self.is_sound() {
-            self.after_event(self.event_effect(number, argument))
-        } else {
-            self.refused(Refusal::Unsound)
+        let answer = self.on_event(number, argument);
+        Reply {
+            controller: self,
+            answer,
         }
     }
 }

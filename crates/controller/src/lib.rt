@@ -4,7 +4,6 @@
 pub mod access;
 mod change;
 mod condition;
-pub mod effect;
 pub mod event;
 mod i2ccon;
 pub mod record;

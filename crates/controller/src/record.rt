@@ -8,7 +8,7 @@ use control::reason::Reason;
 use control::turn::Turn;
 
 // The registers at pointers 00h to 04h and 06h.
-#[derive(Clone, Copy)]
+#[derive(Clone, Copy, Debug, PartialEq, Eq)]
 pub struct Registers {
     // I2CCOUNT: LB in bit 7, BC below.
     pub count: u8,
@@ -23,7 +23,7 @@ pub struct Registers {
     pub speed: u8,
 }
 
-#[derive(Clone, Copy)]
+#[derive(Clone, Copy, Debug, PartialEq, Eq)]
 pub struct Controller {
     pub buffer: [u8; 68],
     // The hand place (document 01's term): the cursor of I2CDAT.
@@ -44,37 +44,36 @@ pub struct Controller {
 fn is_given(status: u8) -> bool
     ensures { result ≡ among status given_statuses }
 {
-    match status {
-        0x00
-        | 0x08
-        | 0x10
-        | 0x18
-        | 0x20
-        | 0x28
-        | 0x30
-        | 0x38
-        | 0x40
-        | 0x48
-        | 0x50
-        | 0x58
-        | 0x60
-        | 0x68
-        | 0x70
-        | 0x78
-        | 0x80
-        | 0x88
-        | 0xA0
-        | 0xA8
-        | 0xB0
-        | 0xB8
-        | 0xC0
-        | 0xC8
-        | 0xD0
-        | 0xD8
-        | 0xE0
-        | 0xE8 => true,
-        _ => false,
-    }
+    matches!(
+        status,
+        0x00 | 0x08
+            | 0x10
+            | 0x18
+            | 0x20
+            | 0x28
+            | 0x30
+            | 0x38
+            | 0x40
+            | 0x48
+            | 0x50
+            | 0x58
+            | 0x60
+            | 0x68
+            | 0x70
+            | 0x78
+            | 0x80
+            | 0x88
+            | 0xA0
+            | 0xA8
+            | 0xB0
+            | 0xB8
+            | 0xC0
+            | 0xC8
+            | 0xD0
+            | 0xD8
+            | 0xE0
+            | 0xE8
+    )
 }
 
 fn host_is_sound(turn: Turn) -> bool
@@ -87,45 +86,28 @@ fn host_is_sound(turn: Turn) -> bool
 }
 
 impl Controller {
-    fn move_is_sound(self) -> bool
-        ensures { result ≡ move_sound self }
+    fn move_is_sound(&self) -> bool
+        ensures { result ≡ move_sound self.now }
     {
-        let turn = self.turn;
-        if turn.moves_data() {
-            let moved = self.moved;
-            if self.control.mode {
-                let count = self.registers.count % 128;
-                let inside = moved < count;
-                if inside { count <= 68 } else { false }
-            } else {
-                moved == 0
-            }
-        } else {
-            true
+        if !self.turn.moves_data() {
+            return true;
         }
+        if !self.control.mode {
+            return self.moved == 0;
+        }
+        let count = self.registers.count % 128;
+        self.moved < count && count <= 68
     }
 
     // Sound (document 01's term): the record obeys the paper's ranges, whatever the buffer holds.
-    pub fn is_sound(self) -> bool
-        ensures { result ≡ sound self }
+    pub fn is_sound(&self) -> bool
+        ensures { result ≡ sound self.now }
     {
-        if 7 < self.pointer {
-            return false;
-        }
-        if 68 < self.hand {
-            return false;
-        }
-        if 68 < self.moved {
-            return false;
-        }
-        if 3 < self.registers.speed {
-            return false;
-        }
-        let turn = self.turn;
-        if host_is_sound(turn) {
-            self.move_is_sound()
-        } else {
-            false
-        }
+        self.pointer <= 7
+            && self.hand <= 68
+            && self.moved <= 68
+            && self.registers.speed <= 3
+            && host_is_sound(self.turn)
+            && self.move_is_sound()
     }
 }

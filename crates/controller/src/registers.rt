@@ -1,16 +1,15 @@
 // INDPTR, I2CDAT and the registers at the pointer.
 ghost use Rattle.std.specs.Prelude.{◌≡◌, ◌≤◌};
-ghost use Rattle.controller.specs.Effect.{after_read, after_write};
-ghost use Rattle.controller.specs.Registers.{read_data, write_data, at_pointer, stored, write_at_pointer};
+ghost use Rattle.controller.specs.Registers.{write_pointer, read_data, write_data, at_pointer, stored, write_at_pointer};
+ghost use Rattle.controller.specs.Reply.{outcome};
 
-use crate::effect::{ReadEffect, WriteEffect};
 use crate::record::{Controller, Registers};
-use answer::Refusal;
+use answer::{Answer, Refusal};
 
 impl Registers {
-    // The registers after a write at the pointer, which is not 05h or 07h.
-    pub(crate) fn stored(mut self, pointer: u8, value: u8) -> Registers
-        ensures { result ≡ stored self pointer value }
+    // A write at the pointer, which is not 05h or 07h.
+    fn store(&mut self, pointer: u8, value: u8)
+        ensures { self.new ≡ stored self.old pointer value }
     {
         match pointer {
             0 => self.count = value,
@@ -20,40 +19,52 @@ impl Registers {
             4 => self.timeout = value,
             _ => self.speed = value % 4,
         }
-        self
     }
 }
 
 impl Controller {
-    pub(crate) fn read_data(self) -> ReadEffect
-        requires { self.hand ≤ 68 }
-        ensures { after_read self result ≡ read_data self }
+    // INDPTR.
+    pub(crate) fn write_pointer(&mut self, value: u8) -> Answer
+        ensures { outcome self.new result ≡ write_pointer self.old value }
     {
-        let hand = self.hand;
-        if hand == 68 {
-            return ReadEffect::Refused(Refusal::BufferEnd);
-        }
-        let at = hand as usize;
-        let buffer = self.buffer;
-        ReadEffect::Advanced(buffer[at])
+        self.pointer = value % 8;
+        self.armed = false;
+        Ok(0)
     }
 
-    pub(crate) fn write_data(self, value: u8) -> WriteEffect
-        ensures { after_write self result ≡ write_data self value }
+    // I2CDAT: the byte at the hand place, which goes on by one.
+    pub(crate) fn read_data(&mut self) -> Answer
+        requires { self.old.hand ≤ 68 }
+        ensures { outcome self.new result ≡ read_data self.old }
     {
         if self.hand == 68 {
-            WriteEffect::Refused(Refusal::BufferEnd)
-        } else {
-            WriteEffect::Loaded(value)
+            return Err(Refusal::BufferEnd);
         }
+        let at = self.hand as usize;
+        self.hand += 1;
+        Ok(self.buffer[at])
+    }
+
+    // The same, written.
+    pub(crate) fn write_data(&mut self, value: u8) -> Answer
+        requires { self.old.hand ≤ 68 }
+        ensures { outcome self.new result ≡ write_data self.old value }
+    {
+        if self.hand == 68 {
+            return Err(Refusal::BufferEnd);
+        }
+        let at = self.hand as usize;
+        self.buffer[at] = value;
+        self.hand += 1;
+        self.armed = false;
+        Ok(0)
     }
 
     // What the register at the pointer reads.
-    pub(crate) fn at_pointer(self) -> u8
-        ensures { result ≡ at_pointer self }
+    pub(crate) fn at_pointer(&self) -> u8
+        ensures { result ≡ at_pointer self.now }
     {
-        let pointer = self.pointer;
-        match pointer {
+        match self.pointer {
             0 => self.registers.count,
             1 => self.registers.own,
             2 => self.registers.low,
@@ -64,13 +75,15 @@ impl Controller {
         }
     }
 
-    pub(crate) fn write_at_pointer(self, value: u8) -> WriteEffect
-        ensures { after_write self result ≡ write_at_pointer self value }
+    // The register at the pointer, written.
+    pub(crate) fn write_at_pointer(&mut self, value: u8) -> Answer
+        ensures { outcome self.new result ≡ write_at_pointer self.old value }
     {
-        let preset = self.pointer == 5;
-        if preset {
+        if self.pointer == 5 {
             return self.write_preset(value);
         }
-        WriteEffect::Registered(value)
+        self.registers.store(self.pointer, value);
+        self.armed = false;
+        Ok(0)
     }
 }

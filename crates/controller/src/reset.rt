@@ -1,10 +1,10 @@
 // The reset pin, the software reset, and the fresh controller.
 ghost use Rattle.std.specs.Prelude.{◌≡◌};
-ghost use Rattle.controller.specs.Effect.{after_write};
+ghost use Rattle.controller.specs.Reply.{outcome};
 ghost use Rattle.controller.specs.Reset.{reset, reset_with, fresh, completes_reset, write_preset};
 
-use crate::effect::WriteEffect;
 use crate::record::{Controller, Registers};
+use answer::Answer;
 use control::flags::Control;
 use control::reason::Reason;
 use control::turn::Turn;
@@ -47,28 +47,28 @@ impl Controller {
     }
 
     // A reset keeps the buffer.
-    pub fn reset(self) -> Controller
-        ensures { result ≡ reset self }
+    pub(crate) fn reset(&mut self)
+        ensures { self.new ≡ reset self.old }
     {
-        let buffer = self.buffer;
-        reset_with(buffer, Reason::Reset)
+        *self = reset_with(self.buffer, Reason::Reset);
     }
 
     // The value is 5Ah, and A5h was the accepted write before it.
-    fn completes_reset(self, value: u8) -> bool
-        ensures { result ≡ completes_reset self value }
+    fn completes_reset(&self, value: u8) -> bool
+        ensures { result ≡ completes_reset self.now value }
     {
-        if self.armed { value == 0x5A } else { false }
+        self.armed && value == 0x5A
     }
 
     // A write to I2CPRESET: it resets, or arms, or disarms.
-    pub(crate) fn write_preset(self, value: u8) -> WriteEffect
-        ensures { after_write self result ≡ write_preset self value }
+    pub(crate) fn write_preset(&mut self, value: u8) -> Answer
+        ensures { outcome self.new result ≡ write_preset self.old value }
     {
         if self.completes_reset(value) {
-            return WriteEffect::Reset;
+            self.reset();
+        } else {
+            self.armed = value == 0xA5;
         }
-        let arms = value == 0xA5;
-        WriteEffect::Armed(arms)
+        Ok(0)
     }
 }

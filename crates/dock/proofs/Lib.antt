@@ -1,6 +1,6 @@
 -- Laws of the state's bytes.
 pub mod Padded
 pub mod ReadBack
-pub mod Fixed
+pub mod First
 pub mod Told
 pub mod Emptied

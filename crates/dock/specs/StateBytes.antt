@@ -35,8 +35,8 @@ marked m = eqb (get_or m 0 0) 0x50 and eqb (get_or m 1 0) 0x76
 unfoldable pub stand_of : List ℕ → Stand
 stand_of m =
     when marked m
-    then stand (stage_for (get_or m 2 0)) (job_for (get_or m 3 0) (get_or m 4 0) (get_or m 5 0)) (get_or m 6 0) (get_or m 7 0) (eqb (get_or m 8 0) 1) (get_or m 9 0)
-    (get_or m 10 0) (not (eqb (get_or m 11 0) 0))
+    then stand (stage_for (get_or m 2 0)) (job_for (get_or m 3 0) (get_or m 4 0) (get_or m 5 0)) (get_or m 6 0) (get_or m 7 0)
+    (eqb (get_or m 8 0) 1) (get_or m 9 0) (get_or m 10 0) (not (eqb (get_or m 11 0) 0))
     else new
 
 unfoldable pub port_of : List ℕ → Port

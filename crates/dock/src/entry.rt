@@ -1,39 +1,52 @@
 // The functions that C and Rust call. C passes each slice as a pointer and a length. A state of under 148 bytes is answered as over with 21, and nothing is
 // written.
-ghost use Rattle.std.specs.Prelude.{List, ◌≡◌, ℕ, ◌≤◌, length, take};
+#![tactic(auto, unfolding(crate::specs::Calls::start_call, crate::specs::Calls::recover_call, crate::specs::Calls::next_call, crate::specs::Calls::give_up_call, crate::specs::Calls::take_call, crate::specs::Calls::too_short, crate::specs::Calls::not_done, notation::specs::Overlay::laid), using(notation::proofs::Cases::cases))]
+
+ghost use Rattle.std.specs.Prelude.{◌≡◌, length};
 ghost use Rattle.notation.specs.Overlay.{laid};
-ghost use Rattle.dock.specs.Calls.{job_asked, start_call, recover_call, next_call, give_up_call, take_call};
+ghost use Rattle.dock.specs.Calls.{not_done, job_asked, start_call, recover_call, next_call, give_up_call, take_call};
 ghost use Rattle.port.specs.Port.{kept_data};
 
 use crate::memory::put_padded;
 use crate::state::{
-    hand_up_from, hear_in, is_marked, keep, load, load_marked, store, tell, tell_first,
+    FETCHED, SIZE, begin, fetched, is_marked, keep, load, load_marked, payload, store, tell,
+    tell_first,
 };
 use address::number::Direction;
-use port::in_hand::least;
+use answer::ending::Ending;
+use port::ask::Ask;
 use port::stand::{Stand, no_job};
 use requests::jobs::job_for;
 use service::job::Job;
 
-// The job that three numbers ask for.
+// The step where the state is too short.
+#[tactic(auto, unfolding(crate::specs::Calls::not_done, port::specs::Ask::ask_number))]
+fn not_done() -> u32
+    ensures { result ≡ not_done.step }
+{
+    u32::from(Ask::Over(Ending::Malformed.number(), 0))
+}
+
+// The job that three numbers ask for. (They are numbers, since C passes them: perlovasta_start, include/perlovasta_dock.h.)
+#[tactic(auto, unfolding(crate::specs::Calls::job_asked), using(notation::proofs::Cases::cases))]
 fn job_asked(kind: u8, address: u8, n: u8) -> Job
     ensures { result ≡ job_asked kind address n }
 {
-    let strange = 1 < kind;
-    if strange {
-        return no_job(0);
+    if 1 < kind {
+        no_job(0)
+    } else {
+        job_for(kind, address, n)
     }
-    job_for(kind, address, n)
 }
 
-// How many bytes of data are kept: of a read none.
-fn kept(job: Job, lent: usize) -> usize
-    ensures { (result ≤ lent) × ((bytes : List ℕ) → length bytes ≡ lent → take result bytes ≡ kept_data job.direction job.n bytes) }
+// The data that are kept: of a read none.
+#[tactic(auto, unfolding(port::specs::Port::kept_data), using(std::proofs::lemmas::List::take_min))]
+fn kept(job: Job, bytes: &[u8]) -> &[u8]
+    ensures { result.now ≡ kept_data job.direction job.n bytes.now }
 {
-    let direction = job.direction;
-    match direction {
-        Direction::Write => least(job.n, lent),
-        Direction::Read => 0,
+    match job.direction {
+        Direction::Write => &bytes[..usize::from(job.n).min(bytes.len())],
+        Direction::Read => &[],
     }
 }
 
@@ -42,15 +55,12 @@ pub fn perlovasta_start(state: &mut [u8], kind: u8, address: u8, n: u8, bytes: &
     ensures step { result ≡ (start_call state.old kind address n bytes.now).step }
     ensures state { state.new ≡ laid (start_call state.old kind address n bytes.now).state state.old }
 {
-    let short = state.len() < 148;
-    if short {
-        return 5381;
-    }
+    let Some(state) = state.first_chunk_mut::<SIZE>() else {
+        return not_done();
+    };
     let job = job_asked(kind, address, n);
     let stand = load(state).start(job, bytes.len());
-    put_padded(state, 80, bytes, 0);
-    put_padded(state, 12, bytes, kept(job, bytes.len()));
-    tell_first(state, stand)
+    begin(state, stand, kept(job, bytes))
 }
 
 // A recovery begins.
@@ -58,14 +68,11 @@ pub fn perlovasta_recover(state: &mut [u8], settings: &[u8]) -> u32
     ensures step { result ≡ (recover_call state.old settings.now).step }
     ensures state { state.new ≡ laid (recover_call state.old settings.now).state state.old }
 {
-    let short = state.len() < 148;
-    if short {
-        return 5381;
-    }
+    let Some(state) = state.first_chunk_mut::<SIZE>() else {
+        return not_done();
+    };
     let stand = load(state).bring_back(settings);
-    put_padded(state, 80, settings, 0);
-    put_padded(state, 12, settings, settings.len());
-    tell_first(state, stand)
+    begin(state, stand, settings)
 }
 
 // The next step, with the value that the last access read.
@@ -73,17 +80,18 @@ pub fn perlovasta_next(state: &mut [u8], value: u8) -> u32
     ensures step { result ≡ (next_call state.old value).step }
     ensures state { state.new ≡ laid (next_call state.old value).state state.old }
 {
-    let short = state.len() < 148;
-    if short {
-        return 5381;
+    let Some(state) = state.first_chunk_mut::<SIZE>() else {
+        return not_done();
+    };
+    // A state without the mark is told apart first, for speed: it has one way on, and the job's fields need no second source.
+    if !is_marked(state) {
+        return tell_first(state, Stand::break_off(Ending::NotReady, true));
     }
-    if is_marked(state) {
-        let stand = load_marked(state);
-        let next = hear_in(state, stand, value);
-        keep(state, stand.place(), value);
-        return tell(state, next);
-    }
-    tell_first(state, Stand::break_off(22, true))
+    let stand = load_marked(state);
+    // Kept before the value is heard, for speed: the other way round a step takes 9 instructions more.
+    keep(state, stand.place(), value);
+    let next = stand.hear(payload(state), value);
+    tell(state, next)
 }
 
 // All is given up.
@@ -91,10 +99,9 @@ pub fn perlovasta_give_up(state: &mut [u8]) -> u32
     ensures step { result ≡ (give_up_call state.old).step }
     ensures state { state.new ≡ laid (give_up_call state.old).state state.old }
 {
-    let short = state.len() < 148;
-    if short {
-        return 5381;
-    }
+    let Some(state) = state.first_chunk_mut::<SIZE>() else {
+        return not_done();
+    };
     tell_first(state, load(state).give_up())
 }
 
@@ -106,16 +113,14 @@ pub fn perlovasta_take(state: &mut [u8], destination: &mut [u8]) -> u8
     ensures state { state.new
         ≡ laid (take_call state.old (length destination.old)).state state.old }
 {
-    let short = state.len() < 148;
-    if short {
-        return 21;
-    }
+    let Some(state) = state.first_chunk_mut::<SIZE>() else {
+        return Ending::Malformed.number();
+    };
     let stand = load(state);
-    let answer = hand_up_from(state, stand, destination);
-    let done = answer == 0;
-    if done {
-        put_padded(state, 80, destination, 0);
-        store(state, Stand::break_off(21, stand.stale));
+    let answer = stand.hand_up(fetched(state), destination);
+    if answer == Ending::Done.number() {
+        put_padded(state, FETCHED, &[]);
+        store(state, Stand::break_off(Ending::Malformed, stand.stale));
     }
     answer
 }

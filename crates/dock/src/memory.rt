@@ -1,24 +1,24 @@
 // Bytes put into the lent state.
-ghost use Rattle.std.specs.Prelude.{◌≡◌, ◌+◌, ◌≤◌, length, take, get_or};
+ghost use Rattle.std.specs.Prelude.{◌≡◌, ◌+◌, ◌≤◌, get_or};
 ghost use Rattle.notation.specs.Overlay.{laid_at};
 ghost use Rattle.port.specs.Port.{padded};
 
-// 68 from this place on: the first n bytes, and zeros after them.
-pub(crate) fn put_padded(state: &mut [u8], at: usize, bytes: &[u8], n: usize)
-    requires { (at + 68 ≤ length state.old) × (n ≤ length bytes.now) }
-    ensures { state.new ≡ laid_at at (padded (take n bytes.now)) state.old }
+use crate::state::{PLACES, State};
+
+// 68 from this place on: the bytes, and zeros after them. (No `copy_from_slice` and `fill`: they would call memmove and memset, and
+// include/perlovasta_dock.h promises that the library calls nothing outside itself.)
+pub(crate) fn put_padded(state: &mut State, at: usize, bytes: &[u8])
+    requires { at + 68 ≤ 148 }
+    ensures { state.new ≡ laid_at at (padded bytes.now) state.old }
 {
-    let mut i = 0;
-    while i < 68 {
-        state[at + i] = byte_or_zero(bytes, n, i);
-        i += 1;
+    for i in 0..PLACES {
+        state[at + i] = byte_or_zero(bytes, i);
     }
 }
 
-// One of the first n bytes, or zero after them.
-fn byte_or_zero(bytes: &[u8], n: usize, i: usize) -> u8
-    requires { n ≤ length bytes.now }
-    ensures { result ≡ get_or (take n bytes.now) i 0 }
+// One of the bytes, or zero after them.
+fn byte_or_zero(bytes: &[u8], i: usize) -> u8
+    ensures { result ≡ get_or bytes.now i 0 }
 {
-    if i < n { bytes[i] } else { 0 }
+    bytes.get(i).copied().unwrap_or(0)
 }

@@ -1,40 +1,45 @@
 // The state in lent bytes.
-ghost use Rattle.std.specs.Prelude.{true, ◌≡◌, ◌≤◌, length, take, drop, set, get_or};
+ghost use Rattle.std.specs.Prelude.{true, ◌≡◌, ◌<◌, take, drop, set, replicate, IfSome};
 ghost use Rattle.notation.specs.Overlay.{laid, laid_at};
 ghost use Rattle.port.specs.Ask.{ask_number};
-ghost use Rattle.port.specs.HandUp.{take_of};
-ghost use Rattle.port.specs.Hear.{hears, asks, first_ask};
-ghost use Rattle.dock.specs.StateBytes.{bit, head_bytes, marked, stand_of};
+ghost use Rattle.port.specs.Hear.{place_number, asks, first_ask};
+ghost use Rattle.port.specs.Port.{padded};
+ghost use Rattle.dock.specs.StateBytes.{head_bytes, bytes_of, marked, stand_of};
 
+use crate::memory::put_padded;
+use answer::ending::Ending;
 use port::stage::Stage;
 use port::stand::Stand;
 use requests::jobs::job_for;
 
-fn weigh(b: bool) -> u8
-    ensures { result ≡ bit b }
-{
-    if b { 1 } else { 0 }
-}
+// What stands where in a state (specs/StateBytes.antt): the head, data from HEAD on, bytes read back from FETCHED on, PLACES of each.
+pub(crate) const HEAD: usize = 12;
+
+pub(crate) const PLACES: usize = 68;
+
+pub(crate) const FETCHED: usize = HEAD + PLACES;
+
+pub(crate) const SIZE: usize = FETCHED + PLACES;
+
+pub(crate) type State = [u8; SIZE];
 
 // The mark.
-pub(crate) fn is_marked(state: &[u8]) -> bool
-    requires { 148 ≤ length state.now }
+#[tactic(auto, unfolding(crate::specs::StateBytes::marked), using(notation::proofs::Cases::cases))]
+pub(crate) fn is_marked(state: &State) -> bool
     ensures { result ≡ marked state.now }
 {
-    let first = state[0] == 0x50;
-    if first { state[1] == 0x76 } else { false }
+    state[0] == 0x50 && state[1] == 0x76
 }
 
-// Where the job stands, by the bytes of a state with the mark.
-pub(crate) fn load_marked(state: &[u8]) -> Stand
-    requires { (148 ≤ length state.now) × (marked state.now ≡ true) }
+// Where the job stands, by the bytes of a state with the mark. (Apart from `load` for speed: the step tests the mark itself.)
+#[tactic(auto, unfolding(crate::specs::StateBytes::stand_of), using(notation::proofs::Cases::cases))]
+pub(crate) fn load_marked(state: &State) -> Stand
+    requires { marked state.now ≡ true }
     ensures { result ≡ stand_of state.now }
 {
-    let stage = Stage::of_number(state[2]);
-    let job = job_for(state[3], state[4], state[5]);
     Stand {
-        stage,
-        job,
+        stage: Stage::from(state[2]),
+        job: job_for(state[3], state[4], state[5]),
         status: state[6],
         made: state[7],
         due: state[8] == 1,
@@ -44,100 +49,85 @@ pub(crate) fn load_marked(state: &[u8]) -> Stand
     }
 }
 
-// Where the job stands, by the state's bytes.
-pub(crate) fn load(state: &[u8]) -> Stand
-    requires { 148 ≤ length state.now }
+// Where the job stands, by the state's bytes; without the mark the state is new.
+#[tactic(auto, unfolding(crate::specs::StateBytes::stand_of), using(notation::proofs::Cases::cases))]
+pub(crate) fn load(state: &State) -> Stand
     ensures { result ≡ stand_of state.now }
 {
     if is_marked(state) {
-        return load_marked(state);
+        load_marked(state)
+    } else {
+        Stand::break_off(Ending::NotReady, true)
     }
-    Stand::break_off(22, true)
 }
 
-// Where the job stands, put into the state's bytes: but for the mark, the address and n, which stand there.
-fn update(state: &mut [u8], s: Stand)
-    requires { (148 ≤ length state.old)
-        × ((marked state.old ≡ true) × (get_or state.old 4 0 ≡ s.job.address.0) × (get_or state.old 5 0 ≡ s.job.n)) }
-    ensures { state.new ≡ laid (head_bytes s) state.old }
+// The data of a write, or the settings of a recovery.
+pub(crate) fn payload(state: &State) -> &[u8]
+    ensures { result.now ≡ take 68 (drop 12 state.now) }
 {
-    let stage = s.stage;
-    let job = s.job;
-    let direction = job.direction;
-    state[2] = stage.number();
-    state[3] = direction.bit();
-    state[6] = s.status;
-    state[7] = s.made;
-    state[8] = weigh(s.due);
-    state[9] = s.answer;
-    state[10] = s.count;
-    state[11] = weigh(s.stale);
+    &state[HEAD..FETCHED]
 }
 
-// All of it is put, whatever stood there.
-pub(crate) fn store(state: &mut [u8], s: Stand)
-    requires { 148 ≤ length state.old }
+// The bytes read back.
+pub(crate) fn fetched(state: &State) -> &[u8]
+    ensures { result.now ≡ take 68 (drop 80 state.now) }
+{
+    &state[FETCHED..]
+}
+
+// Where the job stands, put into the state's bytes.
+pub(crate) fn store(state: &mut State, s: Stand)
     ensures { state.new ≡ laid (head_bytes s) state.old }
 {
-    let job = s.job;
-    let address = job.address;
     state[0] = 0x50;
     state[1] = 0x76;
-    state[4] = address.0;
-    state[5] = job.n;
-    update(state, s);
+    state[2] = u8::from(s.stage);
+    state[3] = s.job.direction.bit();
+    state[4] = s.job.address.0;
+    state[5] = s.job.n;
+    state[6] = s.status;
+    state[7] = s.made;
+    state[8] = u8::from(s.due);
+    state[9] = s.answer;
+    state[10] = s.count;
+    state[11] = u8::from(s.stale);
 }
 
-// Where the job stands once the value is heard; the state is as it was.
-pub(crate) fn hear_in(state: &[u8], s: Stand, value: u8) -> Stand
-    requires { 148 ≤ length state.now }
-    ensures { result ≡ hears s (take 68 (drop 12 state.now)) value }
+// The value read from I2CDAT is noted at its place, if it has one.
+pub(crate) fn keep(state: &mut State, place: Option<usize>, value: u8)
+    requires { IfSome place (λ i. i < 68) }
+    ensures { state.new ≡ laid_at 80 (set (take 68 (drop 80 state.old)) (place_number place) value) state.old }
 {
-    let payload = &state[12..80];
-    s.hear(payload, value)
-}
-
-// The bytes of a finished read go to the destination; the state is as it was.
-pub(crate) fn hand_up_from(state: &[u8], s: Stand, destination: &mut [u8]) -> u8
-    requires { 148 ≤ length state.now }
-    ensures answer { result ≡ (take_of s (take 68 (drop 80 state.now)) (length destination.old)).answer }
-    ensures handed { destination.new
-        ≡ laid (take_of s (take 68 (drop 80 state.now)) (length destination.old)).handed destination.old }
-{
-    let fetched = &state[80..148];
-    s.hand_up(fetched, destination)
-}
-
-// The value read from I2CDAT is noted at its place; 68 is none.
-pub(crate) fn keep(state: &mut [u8], place: usize, value: u8)
-    requires { 148 ≤ length state.old }
-    ensures { state.new ≡ laid_at 80 (set (take 68 (drop 80 state.old)) place value) state.old }
-{
-    if place < 68 {
-        state[80 + place] = value;
+    if let Some(i) = place {
+        state[FETCHED + i] = value;
     }
 }
 
 // The state is put, and the step told.
-pub(crate) fn tell(state: &mut [u8], s: Stand) -> u32
-    requires { (148 ≤ length state.old)
-        × ((marked state.old ≡ true) × (get_or state.old 4 0 ≡ s.job.address.0) × (get_or state.old 5 0 ≡ s.job.n)) }
+pub(crate) fn tell(state: &mut State, s: Stand) -> u32
     ensures step { result ≡ ask_number (asks s (take 68 (drop 12 state.old))) }
     ensures state { state.new ≡ laid (head_bytes s) state.old }
 {
-    update(state, s);
-    let payload = &state[12..80];
-    let ask = s.ask(payload);
-    ask.number()
+    store(state, s);
+    u32::from(s.ask(payload(state)))
 }
 
-// The state is put, whatever stood there, and the first step told.
-pub(crate) fn tell_first(state: &mut [u8], s: Stand) -> u32
-    requires { 148 ≤ length state.old }
+// The state is put, and the first step told. (Apart from `tell` for speed: that has one caller, the step, and is compiled into it.)
+pub(crate) fn tell_first(state: &mut State, s: Stand) -> u32
     ensures step { result ≡ ask_number (first_ask s) }
     ensures state { state.new ≡ laid (head_bytes s) state.old }
 {
     store(state, s);
-    let ask = s.ask_begun();
-    ask.number()
+    u32::from(s.ask_begun())
+}
+
+// A job or a recovery begins, with these data or settings and no bytes read back; the first step is told.
+pub(crate) fn begin(state: &mut State, s: Stand, bytes: &[u8]) -> u32
+    ensures step { result ≡ ask_number (first_ask s) }
+    ensures state { state.new
+        ≡ laid (bytes_of (record { stand = s; payload = padded bytes.now; fetched = replicate 68 0 })) state.old }
+{
+    put_padded(state, FETCHED, &[]);
+    put_padded(state, HEAD, bytes);
+    tell_first(state, s)
 }

@@ -5,23 +5,30 @@ use mathlib.Core.Path.{◌≡◌, refl, sym, ap, ◌∙◌}
 use Prim.Native.Nat.{ℕ, ◌+◌, ◌-◌, ◌≤◌, ◌<◌}
 use native.Mathlib.Nat.{le_of_suc-le-suc, not-suc-le-zero}
 use native.Mathlib.Omega.{arith}
-use lib.Dec.{eqb}
-use lib.ListN.{length, drop, get_or, length-drop}
+use borrow.Author.Tests.{eqb-false}
+use lib.Dec.{eqb, ltb}
+use lib.ListN.{length, take, drop, get_or, length-drop}
+use lib.Seq.{length-take-le, take_all}
 use Rattle.answer.specs.Refusal.{refusal_number}
 use Rattle.answer.specs.declared.Refusal.TheVariants.{OutOfRange, BadArgument, OnTheWire, Locked, Unlisted}
 use Rattle.answer.specs.declared.Refusal.TheVariants.{BadCount, BufferEnd, Unexpected, Inaccessible, Unsound}
 use Rattle.answer.specs.declared.Refusal.{Refusal}
-use Rattle.controller.specs.Event.{event_of}
-use Rattle.controller.specs.Reply.{Outcome}
+use Rattle.controller.specs.Event.{bad_argument, event_of}
+use Rattle.controller.specs.Record.{sound}
+use Rattle.controller.specs.Reply.{Outcome, refuses, accepts}
+use Rattle.controller.specs.declared.record.Controller.{Controller}
+use Rattle.laws.proofs.KeptAccesses.{reset-sound}
+use Rattle.laws.proofs.Refusals.{event-stays}
+use Rattle.laws.proofs.Soundness.{event-stays-sound}
 use Rattle.notation.proofs.Overlay.{at_start, none}
-use Rattle.notation.proofs.Lists.{drop-one}
-use Rattle.driver.specs.Run.{Run, closes, breaks, sending, taking, run}
+use Rattle.driver.specs.Run.{Run, answering, result_of, closes, breaks, sending, taking, run}
+use Rattle.driver.specs.declared.result.JobResult.{JobResult}
 use Rattle.notation.specs.Overlay.{laid, laid_at}
 use Rattle.answer.specs.declared.ending.Ending.TheVariants.{Unfinished, Refused}
-use Rattle.notation.proofs.Cases.{when-true, when-false}
-use Rattle.notation.specs.Choice.{when◌then◌else◌}
+use Rattle.notation.proofs.Cases.{when-true, when-false, split}
+use Rattle.notation.specs.Choice.{when◌then◌else◌, ◌or◌}
 use Rattle.service.specs.Act.{ends, follows}
-use Rattle.service.specs.Progress.{reaching}
+use Rattle.service.specs.Progress.{with_record}
 use Rattle.service.specs.Serve.{Table, serve}
 use Rattle.service.specs.declared.progress.Progress.{Progress}
 
@@ -44,22 +51,24 @@ begun {left} {whole} {out} e =
       number = omega (arith, number);
     }
 
--- the run is over, with nothing more sent
+-- The run is over, with nothing more sent: what the job is told, the bytes held, the out record and the number are those of the whole run.
 pub ended : {left whole : Run} {sent : ℕ} {out lent : List ℕ} (q : Progress) → left ≡ closes q → Leads left whole sent out lent →
-    ((closes q).result ≡ whole.result) × ((q.fetched ≡ whole.fetched) × ((out ≡ laid whole.sent lent) × (sent ≡ length whole.sent)))
+    (r : JobResult) → result_of r ≡ answering q.controller q.ending q.count q.events → r.sent ≡ sent →
+    record {
+      result : result_of r ≡ whole.result;
+      fetched : q.fetched ≡ whole.fetched;
+      sent : out ≡ laid whole.sent lent;
+      number : r.sent ≡ length whole.sent;
+    }
 unfolding closes
-ended {left} {whole} {sent} {out} q e l =
+ended {left} {whole} {sent} {out} q e l r is so_many =
     let none_left = ap (λ (r : Run). length r.sent) e in
-    let number = l.number in (
-      sym (ap (λ (r : Run). r.result) e) ∙ l.result,
-      (
-        sym (ap (λ (r : Run). r.fetched) e) ∙ l.fetched,
-        (
-          sym (ap (λ (r : Run). laid_at sent r.sent out) e ∙ none sent out) ∙ l.sent,
-          omega (arith, none_left, number),
-        ),
-      ),
-    )
+    record {
+      result = is ∙ sym (ap (λ (r : Run). r.result) e) ∙ l.result;
+      fetched = sym (ap (λ (r : Run). r.fetched) e) ∙ l.fetched;
+      sent = sym (ap (λ (r : Run). laid_at sent r.sent out) e ∙ none sent out) ∙ l.sent;
+      number = omega (arith, none_left, l.number, so_many);
+    }
 
 -- one byte more is sent, and one less is left
 one_less : (b : Bool) (value : ℕ) (xs : List ℕ) (sent : ℕ) →
@@ -84,15 +93,10 @@ passes {left} {rest} {whole} {sent} {sent'} {out} event value e next noted l = r
 }
 
 -- so no more bytes are sent than pairs taken
-pub at_most_one : (b : Bool) (sent sent' i : ℕ) → sent' ≡ (when b then sent + 1 else sent) → sent ≤ i → sent' ≤ i + 2
+pub at_most_one : (b : Bool) (sent sent' : ℕ) → sent' ≡ (when b then sent + 1 else sent) → sent' ≤ sent + 1
 unfolding when◌then◌else◌
-at_most_one true sent sent' i e h = omega (arith, e, h)
-at_most_one false sent sent' i e h = omega (arith, e, h)
-
--- the progress as reached, where the record and the pairs taken are its own
-pub reached : (p : Progress) (events : ℕ) → p.events ≡ events → reaching p p.controller events ≡ p
-unfolding reaching
-reached p events e = rw (sym e)
+at_most_one true sent sent' e = omega (arith, e)
+at_most_one false sent sent' e = omega (arith, e)
 
 -- what comes after a pair that was served
 abbrev after : Table → Progress → List ℕ → Run
@@ -116,12 +120,17 @@ run_short table p [] h = refl
 run_short table p (x ∷ []) h = refl
 run_short table p (x ∷ y ∷ xs) h = absurd (not-suc-le-zero (le_of_suc-le-suc (le_of_suc-le-suc h)))
 
--- the first two of what is left, and the rest
-pub drop_two : (xs : List ℕ) (i : ℕ) → i + 1 < length xs → drop i xs ≡ get_or xs i 0 ∷ get_or xs (i + 1) 0 ∷ drop (i + 2) xs
-drop_two xs i h =
-    let e : i + 1 + 1 ≡ i + 2 = omega arith in
-    drop-one xs i (omega arith)
-    ∙ ap (λ (l : List ℕ). get_or xs i 0 ∷ l) (drop-one xs (i + 1) h ∙ ap (λ (k : ℕ). get_or xs (i + 1) 0 ∷ drop k xs) e)
+-- what is left after a pair
+abbrev pub rest : List ℕ → List ℕ
+rest xs = take (length xs - 2) (drop 2 xs)
+
+pub rest-length : (xs : List ℕ) → 2 ≤ length xs → length (rest xs) + 2 ≡ length xs
+rest-length xs h = let d = length-drop 2 xs in let t = length-take-le (length xs - 2) (drop 2 xs) (omega (arith, d)) in omega (arith, t)
+
+first_two : (xs : List ℕ) → 2 ≤ length xs → xs ≡ get_or xs 0 0 ∷ get_or xs 1 0 ∷ rest xs
+first_two [] h = absurd (omega (arith, h))
+first_two (x ∷ []) h = absurd (omega (arith, h))
+first_two (x ∷ y ∷ xs) h = ap (λ (l : List ℕ). x ∷ y ∷ l) (sym (take_all _ xs (omega arith)))
 
 refusal_not_0 : (why : Refusal) → eqb (refusal_number why) 0 ≡ false
 refusal_not_0 OutOfRange = refl
@@ -135,41 +144,57 @@ refusal_not_0 Unexpected = refl
 refusal_not_0 Inaccessible = refl
 refusal_not_0 Unsound = refl
 
-module _ (table : Table) (p : Progress) (script : List ℕ) (i : ℕ) where
+-- an event that was accepted left a sound record, for event 14 resets any, and no other is accepted of one that is not sound
+pub accepted-sound : (c : Controller) (number argument : ℕ) → (event_of c number argument).refused ≡ 0 →
+    sound (event_of c number argument).next ≡ true
+unfolding event_of refuses accepts when◌then◌else◌
+accepted-sound c number argument = go (sound c) refl
+  where
+    P : Outcome → Type 0
+    P o = o.refused ≡ 0 → sound o.next ≡ true
+
+    go : (b : Bool) → sound c ≡ b → P (event_of c number argument)
+    go true s = λ _. event-stays-sound c number argument s
+    go false s =
+        split P (eqb number 0 or ltb 14 number) _ _ (λ _ r. absurd (omega (arith, r)))
+        (λ _. split P (bad_argument number argument) _ _ (λ _ r. absurd (omega (arith, r)))
+        (λ _. split P (eqb number 14) _ _ (λ _ _. reset-sound c.buffer _)
+        (λ _. rw s (λ r. absurd (omega (arith, r))))))
+
+module _ (table : Table) (p : Progress) (xs : List ℕ) where
   -- the script's end
-  pub runs_out : length script - i < 2 → run table p (drop i script) ≡ closes (follows (ends Unfinished) p)
+  pub runs_out : length xs < 2 → run table p xs ≡ closes (follows (ends Unfinished) p)
   unfolding closes breaks follows
-  runs_out h = run_short table p (drop i script) (omega (arith, length-drop i script))
+  runs_out h = run_short table p xs h
 
   -- the controller gave this to the pair
-  module _ (h : i + 1 < length script) (o : Outcome) (e : o ≡ event_of p.controller (get_or script i 0) (get_or script (i + 1) 0)) where
-    pair : run table p (drop i script) ≡ pair_of table p (get_or script i 0) (drop (i + 2) script) o
+  module _ (h : 2 ≤ length xs) (o : Outcome) (e : o ≡ event_of p.controller (get_or xs 0 0) (get_or xs 1 0)) where
+    pair : run table p xs ≡ pair_of table p (get_or xs 0 0) (rest xs) o
     pair =
-        ap (λ (l : List ℕ). run table p l) (drop_two script i h)
-        ∙ run-pair table p (get_or script i 0) (get_or script (i + 1) 0) (drop (i + 2) script)
-        ∙ ap (pair_of table p (get_or script i 0) (drop (i + 2) script)) (sym e)
+        ap (run table p) (first_two xs h)
+        ∙ run-pair table p (get_or xs 0 0) (get_or xs 1 0) (rest xs)
+        ∙ ap (pair_of table p (get_or xs 0 0) (rest xs)) (sym e)
 
-    -- it refused the event
-    pub refused : (why : Refusal) → o.refused ≡ refusal_number why → run table p (drop i script) ≡ closes (follows (ends (Refused why)) p)
+    -- it refused the event, and kept the record
+    pub refused : (why : Refusal) → o.refused ≡ refusal_number why →
+        run table p xs ≡ closes (follows (ends (Refused why)) (with_record p o.next))
     unfolding closes breaks follows
     refused why r =
+        let not-0 : o.refused ≡ 0 → ⊥ = λ z. eqb-false (refusal_number why) 0 (refusal_not_0 why) (sym r ∙ z) in
+        let kept = ap (λ (x : Outcome). x.next) e
+        ∙ (event-stays p.controller (get_or xs 0 0) (get_or xs 1 0)).record-kept (λ z. not-0 (ap (λ (x : Outcome). x.refused) e ∙ z)) in
         pair ∙ when-false _ _ _ (ap (λ (n : ℕ). eqb n 0) r ∙ refusal_not_0 why) ∙ ap (breaks p 28) r
+        ∙ ap (λ (d : Controller). closes (follows (ends (Refused why)) (with_record p d))) (sym kept)
 
-    -- it accepted the event with this value, and the driver did its work
-    module _ (a : o.refused ≡ 0) (value : ℕ) (v : value ≡ o.value) (q : Progress) (s : q ≡ serve table (get_or script i 0) (taking p o.next)) where
-      taken : run table p (drop i script) ≡ sending (get_or script i 0) value (after table q (drop (i + 2) script))
+    -- it accepted the event, and the driver did its work
+    module _ (a : o.refused ≡ 0) (q : Progress) (s : q ≡ serve table (get_or xs 0 0) (taking p o.next)) where
+      taken : run table p xs ≡ sending (get_or xs 0 0) o.value (after table q (rest xs))
       taken =
           pair ∙ when-true _ _ _ (ap (λ (n : ℕ). eqb n 0) a)
-          ∙ ap (λ (t : Progress). sending (get_or script i 0) o.value (after table t (drop (i + 2) script))) (sym s)
-          ∙ ap (λ (n : ℕ). sending (get_or script i 0) n (after table q (drop (i + 2) script))) (sym v)
+          ∙ ap (λ (t : Progress). sending (get_or xs 0 0) o.value (after table t (rest xs))) (sym s)
 
-      pub over : q.over ≡ true → run table p (drop i script) ≡ sending (get_or script i 0) value (closes q)
-      over over-now = taken ∙ ap (λ (t : Run). sending (get_or script i 0) value t) (when-true _ _ _ over-now)
+      pub over : q.over ≡ true → run table p xs ≡ sending (get_or xs 0 0) o.value (closes q)
+      over over-now = taken ∙ ap (sending (get_or xs 0 0) o.value) (when-true _ _ _ over-now)
 
-      -- (the run goes on from t, which is that progress)
-      pub on : q.over ≡ false → {t : Progress} → t ≡ q →
-          run table p (drop i script) ≡ sending (get_or script i 0) value (run table t (drop (i + 2) script))
-      on lasts {t} is =
-          taken
-          ∙ ap (λ (r : Run). sending (get_or script i 0) value r)
-          (when-false _ _ _ lasts ∙ ap (λ (u : Progress). run table u (drop (i + 2) script)) (sym is))
+      pub on : q.over ≡ false → run table p xs ≡ sending (get_or xs 0 0) o.value (run table q (rest xs))
+      on lasts = taken ∙ ap (sending (get_or xs 0 0) o.value) (when-false _ _ _ lasts)

@@ -5,7 +5,6 @@ use Rattle.controller.specs.Event.{event_of}
 use Rattle.controller.specs.declared.record.Controller.{Controller}
 use Rattle.answer.specs.Ending.{number_of, beside_of}
 use Rattle.answer.specs.declared.ending.Ending.{Ending}
-use Rattle.driver.specs.declared.result.Ended.{Ended}
 use Rattle.driver.specs.declared.result.JobResult.{JobResult}
 use Rattle.notation.specs.Choice.{when◌then◌else◌, ◌and◌}
 use Rattle.service.specs.JobSteps.{begins}
@@ -36,20 +35,6 @@ answering c ending count events = record {
 
 unfoldable pub result_of : JobResult → Result
 result_of r = answering r.controller r.ending r.count r.events
-
--- Plumbing of the code, and no rule: a run that is over, as the code has it, with what was noted and how many bytes were sent
-unfoldable pub ended_of : Progress → ℕ → Ended
-ended_of p sent = record {
-  controller = p.controller;
-  ending = p.ending;
-  count = p.count;
-  events = p.events;
-  sent = sent;
-  fetched = p.fetched;
-}
-
-unfoldable pub ended_result : Ended → Result
-ended_result e = answering e.controller e.ending e.count e.events
 
 -- What a run over pairs gives: the result, the bytes read back, and the bytes sent from here on.
 pub record Run : Type 0 where

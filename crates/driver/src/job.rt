@@ -1,32 +1,16 @@
 // A job, run.
 ghost use Rattle.std.specs.Prelude.{◌≡◌, length};
-ghost use Rattle.answer.specs.Ending.{number_of, beside_of};
-ghost use Rattle.driver.specs.Run.{job_of, result_of, declines};
+ghost use Rattle.driver.specs.Run.{job_of, result_of};
 ghost use Rattle.notation.specs.Overlay.{laid};
 
 use crate::hand_up::hand_up;
 use crate::pairs::run_pairs;
-use crate::result::{JobResult, result_of};
+use crate::result::JobResult;
 use answer::ending::Ending;
 use controller::record::Controller;
 use service::checks::{is_malformed, is_ready};
 use service::job::Job;
 use service::table::start;
-
-// A job that is not begun.
-fn decline(controller: Controller, ending: Ending) -> JobResult
-    requires { beside_of ending ≡ 0 }
-    ensures result { result_of result ≡ (declines controller (number_of ending)).result }
-    ensures sent { result.sent ≡ 0 }
-{
-    JobResult {
-        controller,
-        ending,
-        count: 0,
-        events: 0,
-        sent: 0,
-    }
-}
 
 // Runs a job: the data of a write is `payload`, a read's bytes go to `destination`, the bytes sent to `out`.
 pub fn run_job(
@@ -49,13 +33,13 @@ pub fn run_job(
         out.len(),
         script.len(),
     ) {
-        return decline(c, Ending::Malformed);
+        return JobResult::declined(c, Ending::Malformed);
     }
-    if is_ready(c) {
-        let end = run_pairs(start(job, c), job, payload, out, script);
-        hand_up(job, end, destination);
-        result_of(end)
-    } else {
-        decline(c, Ending::NotReady)
+    if !is_ready(&c) {
+        return JobResult::declined(c, Ending::NotReady);
     }
+    let mut p = start(job, c);
+    let result = run_pairs(&mut p, job, payload, out, script);
+    hand_up(job, result.ending, &p.fetched, destination);
+    result
 }

@@ -1,88 +1,69 @@
 // The run over the script's pairs.
-ghost use Rattle.std.specs.Prelude.{true, false, ◌≡◌, length};
+ghost use Rattle.std.specs.Prelude.{true, ◌≡◌, length};
 ghost use Rattle.controller.specs.Record.{sound};
-ghost use Rattle.driver.specs.Run.{ended_result, run};
+ghost use Rattle.driver.specs.Run.{result_of, run};
 ghost use Rattle.notation.specs.Overlay.{laid};
 ghost use Rattle.service.specs.JobTable.{job_table};
+ghost use Rattle.service.specs.Serve.{serve};
 
 use crate::out_record::note;
-use crate::result::{Ended, end_at, end_noted, end_with};
+use crate::result::JobResult;
 use answer::ending::Ending;
-use control::turn::{Edge, Turn};
-use controller::effect::EventEffect;
 use service::job::Job;
 use service::progress::Progress;
-use service::table::work_at;
 
-// Takes pairs while the job lasts; what it breaks with is the end of the job. (The record is held beside the progress, and each event
-// changes it in place, so that a pair without work copies no buffer.)
+// The work after a pair: event 14 and own STOP end the job, and at F8h it waits.
+fn serve(p: &mut Progress, job: Job, payload: &[u8], event: u8)
+    requires { sound p.old.controller ≡ true }
+    ensures { p.new ≡ serve (job_table job payload.now) event p.old }
+{
+    match event {
+        14 => p.end(Ending::Reset),
+        4 => p.over = true,
+        _ => {
+            let status = p.controller.turn.status();
+            // (A name: wrong programs change what it is, and the goals below keep theirs.)
+            let idle = status == 0xF8;
+            if !idle {
+                p.work_at(job, payload, status);
+            }
+        }
+    }
+}
+
+// Takes pairs while the job lasts; what the loop breaks with is the job's answer. (A `for` over the pairs could break with none.)
 pub(crate) fn run_pairs(
-    start: Progress,
+    p: &mut Progress,
     job: Job,
     payload: &[u8],
     out: &mut [u8],
     script: &[u8],
-) -> Ended
-    requires { (start.events ≡ 0) × (start.over ≡ false) × (sound start.controller ≡ true) }
-    ensures result { ended_result result ≡ (run (job_table job payload.now) start script.now).result }
-    ensures fetched { result.fetched ≡ (run (job_table job payload.now) start script.now).fetched }
-    ensures sent { out.new ≡ laid (run (job_table job payload.now) start script.now).sent out.old }
-    ensures number { result.sent ≡ length (run (job_table job payload.now) start script.now).sent }
+) -> JobResult
+    requires { p.old.events ≡ 0 }
+    ensures result { result_of result ≡ (run (job_table job payload.now) p.old script.now).result }
+    ensures fetched { p.new.fetched ≡ (run (job_table job payload.now) p.old script.now).fetched }
+    ensures sent { out.new ≡ laid (run (job_table job payload.now) p.old script.now).sent out.old }
+    ensures number { result.sent ≡ length (run (job_table job payload.now) p.old script.now).sent }
 {
-    let mut p = start;
-    let mut c = start.controller;
-    let mut events = 0;
+    let mut left = script;
     let mut sent = 0;
-    let mut i = 0;
     loop {
-        if script.len() - i < 2 {
-            break end_at(p, c, events, sent, Ending::Unfinished);
-        }
-        let event = script[i];
-        let argument = script[i + 1];
-        i += 2;
-        let effect = c.event_effect(event, argument);
-        match effect {
-            EventEffect::Refused(why) => break end_at(p, c, events, sent, Ending::Refused(why)),
-            EventEffect::Unchanged => {}
-            EventEffect::Listen => c = c.turned(Turn::Listen),
-            EventEffect::Busy => c = c.turned(Turn::Busy),
-            EventEffect::Free => c = c.turned(Turn::Free),
-            EventEffect::Stopped => c = c.stopped(),
-            EventEffect::Interrupts(status, edge, _) => c = c.interrupted(status, edge),
-            EventEffect::Sent(_) => c.moved += 1,
-            EventEffect::SentLast(status, _) => c = c.ended(status),
-            EventEffect::Received(byte) => {
-                let cursor = c.cursor() as usize;
-                c.buffer[cursor] = byte;
-                c.moved += 1;
+        let [event, argument, rest @ ..] = left else {
+            p.end(Ending::Unfinished);
+            break JobResult::of(p, sent);
+        };
+        left = rest;
+        match p.controller.on_event(*event, *argument) {
+            Ok(value) => sent = note(out, sent, *event, value),
+            Err(why) => {
+                p.end(Ending::Refused(why));
+                break JobResult::of(p, sent);
             }
-            EventEffect::ReceivedLast(status, byte, _) => {
-                let last = c.cursor() as usize;
-                c.buffer[last] = byte;
-                c = c.ended(status);
-            }
-            EventEffect::ChangesStatus(status) => c = c.with_status(status, Edge::Stop),
-            EventEffect::Reset => c = c.reset(),
         }
-        let answer = effect.answer();
-        sent = note(out, sent, event, answer.value());
-        events += 1;
-        match event {
-            14 => break end_at(p, c, events, sent, Ending::Reset),
-            4 => break end_noted(p, c, events, sent),
-            _ => {}
-        }
-        let turn = c.turn;
-        let status = turn.status();
-        let idle = status == 0xF8;
-        if idle {
-            continue;
-        }
-        p = work_at(job, payload, status, p.reach(c, events));
-        c = p.controller;
+        p.events += 1;
+        serve(p, job, payload, *event);
         if p.over {
-            break end_with(p, sent);
+            break JobResult::of(p, sent);
         }
     }
 }

@@ -1,102 +1,50 @@
-// What a run ends with, and what a job gives beside the bytes.
+// What a job gives beside the bytes.
 ghost use Rattle.std.specs.Prelude.{◌≡◌};
-ghost use Rattle.driver.specs.Run.{ended_of, ended_result, result_of};
-ghost use Rattle.service.specs.Act.{ends, finishes, follows};
-ghost use Rattle.service.specs.Progress.{reaching};
+ghost use Rattle.driver.specs.Run.{answering, result_of};
 
 use answer::ending::Ending;
 use controller::record::Controller;
 use service::progress::Progress;
 
-// What a job gives beside the bytes.
-#[derive(Clone, Copy)]
+#[derive(Clone, Copy, Debug, PartialEq, Eq)]
 pub struct JobResult {
     pub controller: Controller,
     pub ending: Ending,
     pub count: u8,
     // Pairs of the script that were taken.
     pub events: usize,
-    // How many bytes were sent: so many the out record begins with.
+    // How many bytes were sent: so many the out record begins with. (A number: the record is lent by the caller, who keeps it.)
     pub sent: usize,
 }
 
-// A run that is over: that, and the bytes read back. (One struct with no struct of theirs inside, so that few bytes are copied.)
-#[derive(Clone, Copy)]
-pub(crate) struct Ended {
-    pub(crate) controller: Controller,
-    pub(crate) ending: Ending,
-    pub(crate) count: u8,
-    pub(crate) events: usize,
-    pub(crate) sent: usize,
-    pub(crate) fetched: [u8; 68],
-}
-
-// The job ends here, with this answer and count 0.
-pub(crate) fn end_at(
-    p: Progress,
-    c: Controller,
-    events: usize,
-    sent: usize,
-    ending: Ending,
-) -> Ended
-    ensures { result ≡ ended_of (follows (ends ending) (reaching p c events)) sent }
-{
-    let fetched = p.fetched;
-    Ended {
-        controller: c,
-        ending,
-        count: 0,
-        events,
-        sent,
-        fetched,
+impl JobResult {
+    // Of a job that is not begun.
+    #[tactic(auto, unfolding(crate::specs::Run::result_of))]
+    pub fn declined(controller: Controller, ending: Ending) -> JobResult
+        ensures result { result_of result ≡ answering controller ending 0 0 }
+        ensures sent { result.sent ≡ 0 }
+    {
+        JobResult {
+            controller,
+            ending,
+            count: 0,
+            events: 0,
+            sent: 0,
+        }
     }
-}
 
-// Own STOP came: the job ends here, as was noted.
-pub(crate) fn end_noted(p: Progress, c: Controller, events: usize, sent: usize) -> Ended
-    ensures { result ≡ ended_of (follows finishes (reaching p c events)) sent }
-{
-    let noted = p.ending;
-    let fetched = p.fetched;
-    Ended {
-        controller: c,
-        ending: noted,
-        count: p.count,
-        events,
-        sent,
-        fetched,
-    }
-}
-
-// The job is over, as was noted.
-pub(crate) fn end_with(p: Progress, sent: usize) -> Ended
-    ensures { result ≡ ended_of p sent }
-{
-    let controller = p.controller;
-    let ending = p.ending;
-    let fetched = p.fetched;
-    Ended {
-        controller,
-        ending,
-        count: p.count,
-        events: p.events,
-        sent,
-        fetched,
-    }
-}
-
-// Of a run that is over, what the job gives.
-pub(crate) fn result_of(end: Ended) -> JobResult
-    ensures result { result_of result ≡ ended_result end }
-    ensures sent { result.sent ≡ end.sent }
-{
-    let controller = end.controller;
-    let ending = end.ending;
-    JobResult {
-        controller,
-        ending,
-        count: end.count,
-        events: end.events,
-        sent: end.sent,
+    // Of a job that is over, as was noted.
+    #[tactic(auto, unfolding(crate::specs::Run::result_of))]
+    pub(crate) fn of(p: &Progress, sent: usize) -> JobResult
+        ensures result { result_of result ≡ answering p.now.controller p.now.ending p.now.count p.now.events }
+        ensures sent { result.sent ≡ sent }
+    {
+        JobResult {
+            controller: p.controller,
+            ending: p.ending,
+            count: p.count,
+            events: p.events,
+            sent,
+        }
     }
 }

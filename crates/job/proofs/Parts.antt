@@ -1,41 +1,50 @@
--- What is known of an input that is not bad. Assumes nothing.
-use mathlib.Core.Bool.{false}
+-- What is taken of an input that is not bad. Assumes nothing.
+use mathlib.Core.Bool.{false, true}
 use mathlib.Core.List.{List}
-use mathlib.Core.Path.{◌≡◌, ap, ◌∙◌}
+use mathlib.Core.Path.{◌≡◌, sym, ap, ◌∙◌}
 use Prim.Native.Nat.{ℕ, ◌+◌, ◌-◌, ◌<◌, ◌≤◌}
 use native.Mathlib.Omega.{arith}
-use borrow.Author.Tests.{ltb-false}
-use lib.Dec.{eqb}
+use borrow.Author.Tests.{le-ltb, lt-ltb}
 use lib.ListN.{length, take, drop, length-drop}
-use lib.Seq.{take_all}
-use Rattle.driver.specs.Run.{job_of}
+use lib.Seq.{take_all, drop-drop}
+use Rattle.job.specs.Program.{kind_of, data_size, bad_input, job_in, IsParsed}
+use lib.Dec.{eqb}
+use Rattle.address.specs.declared.number.Direction.TheVariants.{Write, Read}
+use Rattle.address.specs.declared.number.Direction.{Direction}
+use Rattle.notation.proofs.Cases.{or_right, or-false, split, when-true, when-false}
+use Rattle.notation.specs.Choice.{when◌then◌else◌}
+use Rattle.requests.specs.Jobs.{data_length, direction_for}
 use Rattle.service.specs.declared.job.Job.{Job}
-use Rattle.job.specs.Program.{kind_of, size_of, data_size, bad_input}
-use Rattle.notation.proofs.Cases.{or-left-off, or_right_off, split}
-use Rattle.requests.specs.Jobs.{fresh_enabled}
 
--- a data length is a byte
-pub data_small : (input : List ℕ) → size_of input < 256 → data_size input < 256
-unfolding data_size
-data_small input h = split (λ (n : ℕ). n < 256) (eqb (kind_of input) 0) (size_of input) 0 (λ _. h) (λ _. omega arith)
+-- the data that go with the job are as many as the input says
+pub same_size : (kind n : ℕ) → data_length (direction_for kind) n ≡ (when eqb kind 0 then n else 0)
+unfolding data_length direction_for
+same_size kind n =
+    split (λ (d : Direction). data_length d n ≡ (when eqb kind 0 then n else 0)) (eqb kind 0) Write Read
+    (λ h. sym (when-true _ _ _ h)) (λ h. sym (when-false _ _ _ h))
 
-module _ (input : List ℕ) (fine : bad_input input ≡ false) where
-  pub has_head : 3 ≤ length input
+-- by what its head shows, and what stands after it
+module _ (input rest payload script : List ℕ) (asked : Job) (size : ℕ) (short : length input ≤ 4096) (head : 3 ≤ length input) (kind : kind_of input ≤ 1)
+    (tail : rest ≡ take (length input - 3) (drop 3 input)) (same : size ≡ data_size input) where
+  is-rest : rest ≡ drop 3 input
+  is-rest = tail ∙ take_all (length input - 3) (drop 3 input) (omega (arith, length-drop 3 input))
+
+  fine : size ≤ length rest → bad_input input ≡ false
   unfolding bad_input
-  has_head = ltb-false (length input) 3 (or-left-off _ _ (or_right_off _ _ fine))
+  fine h =
+      or-false _ _ (le-ltb 4096 (length input) short) (or-false _ _ (le-ltb (length input) 3 head) (or-false _ _ (le-ltb 1 (kind_of input) kind)
+      (le-ltb (length input) (3 + data_size input) (omega (arith, h, ap length is-rest, length-drop 3 input)))))
 
-  pub has_data : 3 + data_size input ≤ length input
+  pub cut_short : length rest < size → bad_input input ≡ true
   unfolding bad_input
-  has_data = ltb-false (length input) (3 + data_size input) (or_right_off _ _ (or_right_off _ _ (or_right_off _ _ fine)))
+  cut_short h =
+      or_right _ _ (or_right _ _ (or_right _ _
+      (lt-ltb (length input) (3 + data_size input) (omega (arith, h, same, ap length is-rest, length-drop 3 input)))))
 
--- the parts lent to the job
-pub data_part : (input : List ℕ) (size n : ℕ) → size ≡ n → take (3 + size - 3) (drop 3 input) ≡ take n (drop 3 input)
-data_part input size n e = let f : 3 + size - 3 ≡ n = omega arith in ap (λ (k : ℕ). take k (drop 3 input)) f
-
-pub script_part : (input : List ℕ) (start n : ℕ) → start ≡ n → take (length input - start) (drop start input) ≡ drop n input
-script_part input start n e =
-    take_all (length input - start) (drop start input) (omega (arith, length-drop start input)) ∙ ap (λ (k : ℕ). drop k input) e
-
-pub same-job : {job job' : Job} {payload payload' script script' : List ℕ} → job ≡ job' → payload ≡ payload' → script ≡ script' →
-    job_of job payload 68 69 script fresh_enabled ≡ job_of job' payload' 68 69 script' fresh_enabled
-same-job j p s = cc
+  pub parsed : size ≤ length rest → asked ≡ job_in input → payload ≡ take size rest → script ≡ drop size rest → IsParsed input asked payload script
+  parsed h j p s = record {
+    fine = fine h;
+    job = j;
+    sent = p ∙ ap (take size) is-rest ∙ ap (λ (k : ℕ). take k (drop 3 input)) same;
+    rest = s ∙ ap (drop size) is-rest ∙ drop-drop size 3 input ∙ ap (λ (k : ℕ). drop (3 + k) input) same;
+  }

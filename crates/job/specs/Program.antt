@@ -1,5 +1,5 @@
 -- Document 01, Jobs, the program: what it prints of its input.
-use Rattle.std.specs.Prelude.{Bool, List, ℕ, ◌+◌, eqb, ltb, length, get_or, take, drop}
+use Rattle.std.specs.Prelude.{◌≡◌, Bool, false, List, ℕ, ◌+◌, eqb, ltb, length, get_or, take, drop}
 use Rattle.console.specs.JobText.{report_text}
 use Rattle.driver.specs.Run.{Report, declines, job_of}
 use Rattle.service.specs.declared.job.Job.{Job}
@@ -24,6 +24,13 @@ data_size input = when eqb (kind_of input) 0 then size_of input else 0
 unfoldable pub bad_input : List ℕ → Bool
 bad_input input =
     ltb 4096 (length input) or ltb (length input) 3 or ltb 1 (kind_of input) or ltb (length input) (3 + data_size input)
+
+-- what is taken of an input that is not bad
+pub record IsParsed (input : List ℕ) (asked : Job) (payload script : List ℕ) : Type 0 where
+  pub fine : bad_input input ≡ false
+  pub job : asked ≡ job_in input
+  pub sent : payload ≡ take (data_size input) (drop 3 input)
+  pub rest : script ≡ drop (3 + data_size input) input
 
 -- what the input's job gives, with a destination of 68 and an out record of 69 bytes
 unfoldable pub program_report : List ℕ → Report

@@ -2,15 +2,14 @@
 #![tactic(auto)]
 
 mod input;
-mod read;
 
+use console::read::read_full;
 use std::io;
 use std::io::Write;
 
 fn main(rt: HostRuntime) {
-    let mut bytes = [0u8; 4097];
-    let mut text = [0u8; 1024];
-    let size = read::read_full(&mut rt.stdin(), &mut bytes);
-    let end = input::run(&bytes[..size], &mut text);
-    let _ = io::writer(&rt).write_all(&text[..end]);
+    let mut bytes = [0; 4097];
+    let size = read_full(&mut rt.stdin(), &mut bytes);
+    let text = input::run(&bytes[..size]);
+    let _ = io::writer(&rt).write_all(text.as_bytes());
 }

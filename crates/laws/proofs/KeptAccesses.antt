@@ -1,4 +1,5 @@
 -- Reads and writes of a sound record leave a sound one. Assumes nothing.
+use Rattle.std.specs.Prelude.{Option, Some, None}
 use mathlib.Core.Bool.{Bool, true, false, not, true≢false}
 use mathlib.Core.List.{List, [], ◌∷◌}
 use mathlib.Core.Path.{◌≡◌, refl, sym, ap, ◌∙◌}
@@ -15,8 +16,6 @@ use Rattle.control.specs.declared.turn.Edge.TheVariants.{Stop, Start}
 use Rattle.control.specs.declared.turn.Edge.{Edge}
 use Rattle.control.specs.declared.turn.Turn.TheVariants as turn
 use Rattle.control.specs.declared.turn.Turn.{Turn}
-use Rattle.control.specs.declared.writing.Response.TheVariants.{Next, Unlisted}
-use Rattle.control.specs.declared.writing.Response.{Response}
 use Rattle.controller.proofs.SoundParts.{parts, whole}
 use Rattle.controller.specs.Access.{bars_write, indirect_at, read_sound, write_sound}
 use Rattle.controller.specs.I2ccon.{keeps, controlled, bad_count, enabled, without_start, write_flags, write_control}
@@ -131,43 +130,43 @@ module _ (c : Controller) (k : Control) (t : Turn) (s : sound c ≡ true) (h : h
           and-true (ltb 0 (byte_count c)) (leb (byte_count c) 68) (lt-ltb 0 (byte_count c) (omega arith)) (le-leb (byte_count c) 68 few)
 
 -- Where a write leads: not to Host, so that SI is cleared, save where it is held at 38h; and to Host only at a status that the rules give.
-abbrev NotHost : Response → Type 0
-NotHost (Next t) = among (kind t) (host ∷ []) ≡ false
-NotHost Unlisted = Unit {0}
+abbrev NotHost : Option Turn → Type 0
+NotHost (Some t) = among (kind t) (host ∷ []) ≡ false
+NotHost None = Unit {0}
 
-abbrev Given : Response → Type 0
-Given (Next t) = host_sound t ≡ true
-Given Unlisted = Unit {0}
+abbrev Given : Option Turn → Type 0
+Given (Some t) = host_sound t ≡ true
+Given None = Unit {0}
 
-pub record WriteLeads (held : Bool) (r : Response) : Type 0 where
+pub record WriteLeads (held : Bool) (r : Option Turn) : Type 0 where
   pub clears : held ≡ false → NotHost r
   pub given : Given r
 
-choose : (held b : Bool) (x y : Response) → (b ≡ true → WriteLeads held x) → (b ≡ false → WriteLeads held y) →
+choose : (held b : Bool) (x y : Option Turn) → (b ≡ true → WriteLeads held x) → (b ≡ false → WriteLeads held y) →
     WriteLeads held (when b then x else y)
 choose held b x y p q = split (WriteLeads held) b x y p q
 
-unlisted : (held : Bool) → WriteLeads held Unlisted
+unlisted : (held : Bool) → WriteLeads held None
 unlisted held = record { clears = λ n. tt; given = tt }
 
-leads : (held : Bool) (t : Turn) → has (host ∷ []) (kind t) ≡ false → WriteLeads held (Next t)
+leads : (held : Bool) (t : Turn) → has (host ∷ []) (kind t) ≡ false → WriteLeads held (Some t)
 unfolding host_sound
 leads held t h =
     let other = among-has (kind t) (host ∷ []) ∙ h in
     record { clears = λ n. other; given = when-false _ _ _ other }
 
 -- at 38h itself
-stays : (status : ℕ) (edge : Edge) → among status (0x38 ∷ []) ≡ true → WriteLeads (eqb status 0x38) (Next (turn.Host 0x38 edge))
+stays : (status : ℕ) (edge : Edge) → among status (0x38 ∷ []) ≡ true → WriteLeads (eqb status 0x38) (Some (turn.Host 0x38 edge))
 stays status edge e = record {
   clears = λ n. absurd (true≢false (sym e ∙ none_of (0x38 ∷ []) status (eqb-false status 0x38 n)));
   given = given-sound 0x38 edge tt;
 }
 
-ends-clears : (held : Bool) (k : Control) (r : Response) → WriteLeads held r → WriteLeads held (end_or k r)
+ends-clears : (held : Bool) (k : Control) (r : Option Turn) → WriteLeads held r → WriteLeads held (end_or k r)
 unfolding end_or kind
 ends-clears held k r h = search (choose, leads)
 
-edge_clears : (held : Bool) (e : Edge) → WriteLeads held (Next (after_edge e))
+edge_clears : (held : Bool) (e : Edge) → WriteLeads held (Some (after_edge e))
 unfolding after_edge kind
 edge_clears held Stop = search leads
 edge_clears held Start = search leads
@@ -183,10 +182,10 @@ response-clears t k =
     (λ e. choose _ (among (kind t) (host ∷ [])) _ _ (λ e. status-clears (status_of t) (edge_of t) k)
     (λ e. leads _ t (sym (among-has (kind t) (host ∷ [])) ∙ e)))
 
-enabling : (c : Controller) (k : Control) (held : Bool) (r : Response) → sound c ≡ true → WriteLeads held r → Kept (enabled c k r)
+enabling : (c : Controller) (k : Control) (held : Bool) (r : Option Turn) → sound c ≡ true → WriteLeads held r → Kept (enabled c k r)
 unfolding enabled
-enabling c k held Unlisted s h = refused c 5 s
-enabling c k held (Next t) s h = split Kept (bad_count c k t) _ _ (λ e. refused c 6 s) (λ e. control-written c k t s h.given e)
+enabling c k held None s h = refused c 5 s
+enabling c k held (Some t) s h = split Kept (bad_count c k t) _ _ (λ e. refused c 6 s) (λ e. control-written c k t s h.given e)
 
 write-flags : (c : Controller) (k : Control) → sound c ≡ true → Kept (write_flags c k)
 unfolding write_flags bad_count host_sound

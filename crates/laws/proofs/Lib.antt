@@ -6,6 +6,6 @@ pub mod Kept
 pub mod KeptEvents
 pub mod KeptAccesses
 pub mod Soundness
-pub mod InPlace
 pub mod Status
 pub mod Status38h
+pub mod InPlace

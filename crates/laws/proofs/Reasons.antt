@@ -1,4 +1,5 @@
 -- The reason after any event, write and read, and that whenever SI is 1 it is that of the status. Assumes nothing.
+use Rattle.std.specs.Prelude.{Option, Some, None}
 use mathlib.Core.Bool.{Bool, true, false, true≢false}
 use mathlib.Core.List.{List, [], ◌∷◌}
 use mathlib.Core.Path.{◌≡◌, refl, sym, ap, subst, ◌∙◌}
@@ -21,8 +22,6 @@ use Rattle.control.specs.declared.turn.Called.{Called}
 use Rattle.control.specs.declared.turn.Edge.{Edge}
 use Rattle.control.specs.declared.turn.Turn.TheVariants.{Off, Host}
 use Rattle.control.specs.declared.turn.Turn.{Turn}
-use Rattle.control.specs.declared.writing.Response.TheVariants.{Next, Unlisted}
-use Rattle.control.specs.declared.writing.Response.{Response}
 use Rattle.controller.specs.Access.{indirect_at, read_sound, read_of, write_sound, write_of}
 use Rattle.controller.specs.Condition.{own_start, other_start, other_stop, own_stop, addressed, address_byte}
 use Rattle.controller.specs.Condition.{outbid, address_lost, data_lost, illegal_edge, data_held, clock_held, idle}
@@ -167,19 +166,19 @@ ruleset accesses =
     (refused, reset-done, choose, accessed, written, leads, not_two, and-true, and_no_left, and_no_right, refl)
 
 -- at 38h it leaves the turn
-next_at_38h : (e : Edge) (k : Control) (t : Turn) → Next t ≡ response (Host 0x38 e) k → t ≡ Host 0x38 e
+next_at_38h : (e : Edge) (k : Control) (t : Turn) → Some t ≡ response (Host 0x38 e) k → t ≡ Host 0x38 e
 unfolding response responds_at kind status_of edge_of among when◌then◌else◌
 next_at_38h e k t p = ap leads_to p
   where
-    leads_to : Response → Turn
-    leads_to (Next u) = u
-    leads_to Unlisted = t
+    leads_to : Option Turn → Turn
+    leads_to (Some u) = u
+    leads_to None = t
 
-enabling : (c : Controller) (k : Control) (r : Response) (resets : Bool) → response c.turn k ≡ r → resets ≡ false →
+enabling : (c : Controller) (k : Control) (r : Option Turn) (resets : Bool) → response c.turn k ≡ r → resets ≡ false →
     Follows c resets false (enabled c k r)
 unfolding enabled
-enabling c k Unlisted resets e f = search accesses
-enabling c k (Next t) resets e f = choose c resets false _ _ _ (λ _. refused c resets false 6 refl) (λ _. at_38h (at38h c.turn) refl)
+enabling c k None resets e f = search accesses
+enabling c k (Some t) resets e f = choose c resets false _ _ _ (λ _. refused c resets false 6 refl) (λ _. at_38h (at38h c.turn) refl)
   where
     at_38h : (b : Bool) → at38h c.turn ≡ b → Follows c resets false (controlled c k t)
     at_38h true a =

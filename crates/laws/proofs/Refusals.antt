@@ -1,5 +1,6 @@
 -- "The value returned is 0 and the whole record stays": a refused access or event changes nothing; and which numbers a read, a write and an event can be
 -- given. Assumes nothing.
+use Rattle.std.specs.Prelude.{Option, Some, None}
 use mathlib.Core.Bool.{Bool, true, false}
 use mathlib.Core.List.{List, [], ◌∷◌}
 use mathlib.Core.Path.{◌≡◌, refl, ◌∙◌}
@@ -13,8 +14,6 @@ use Rattle.control.specs.declared.turn.Called.TheVariants as called
 use Rattle.control.specs.declared.turn.Called.{Called}
 use Rattle.control.specs.declared.turn.Edge.{Edge}
 use Rattle.control.specs.declared.turn.Turn.{Turn}
-use Rattle.control.specs.declared.writing.Response.TheVariants.{Next, Unlisted}
-use Rattle.control.specs.declared.writing.Response.{Response}
 use Rattle.controller.specs.Access.{read_sound, read_of, write_sound, write_of}
 use Rattle.controller.specs.Condition.{own_start, other_start, other_stop, own_stop, addressed, address_byte}
 use Rattle.controller.specs.Condition.{outbid, address_lost, data_lost, illegal_edge, data_held, clock_held, idle}
@@ -196,10 +195,10 @@ control-written : (c : Controller) (k : Control) (t : Turn) → Stays c of_write
 unfolding controlled
 control-written c k t = search ends
 
-enabling : (c : Controller) (k : Control) (r : Response) → Stays c of_write (enabled c k r)
+enabling : (c : Controller) (k : Control) (r : Option Turn) → Stays c of_write (enabled c k r)
 unfolding enabled
-enabling c k Unlisted = search ends
-enabling c k (Next t) = search (control-written, ends)
+enabling c k None = search ends
+enabling c k (Some t) = search (control-written, ends)
 
 write-flags : (c : Controller) (k : Control) → Stays c of_write (write_flags c k)
 unfolding write_flags

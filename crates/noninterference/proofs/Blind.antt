@@ -7,6 +7,7 @@ use Prim.Native.Nat.{ℕ}
 use borrow.Author.Tests.{eqb-true}
 use lib.Dec.{T, eqb, ltb}
 use lib.ListN.{length, get_or, length-set}
+use Rattle.std.specs.Prelude.{Option, Some, None}
 use Rattle.address.specs.Number.{direction_of}
 use Rattle.address.specs.declared.matching.Match.TheVariants.{Own, General, Nothing}
 use Rattle.address.specs.declared.matching.Match.{Match}
@@ -17,8 +18,6 @@ use Rattle.control.specs.declared.turn.Called.TheVariants as called
 use Rattle.control.specs.declared.turn.Called.{Called}
 use Rattle.control.specs.declared.turn.Edge.{Edge}
 use Rattle.control.specs.declared.turn.Turn.{Turn}
-use Rattle.control.specs.declared.writing.Response.TheVariants.{Next, Unlisted}
-use Rattle.control.specs.declared.writing.Response.{Response}
 use Rattle.controller.specs.Access.{indirect_at, bars_read, bars_write, read_sound, read_of, write_sound, write_of}
 use Rattle.controller.specs.Condition.{own_start, other_start, other_stop, own_stop, addressed, address_byte}
 use Rattle.controller.specs.Condition.{outbid, address_lost, data_lost, illegal_edge, data_held, clock_held, idle}
@@ -168,10 +167,10 @@ control-written : (c : Controller) (b : List ℕ) (k : Control) (t : Turn) → B
 unfolding controlled
 control-written c b k t = search ends
 
-enabling : (c : Controller) (b : List ℕ) (k : Control) (r : Response) → Blind c (enabled c k r) (enabled (with_buffer c b) k r)
+enabling : (c : Controller) (b : List ℕ) (k : Control) (r : Option Turn) → Blind c (enabled c k r) (enabled (with_buffer c b) k r)
 unfolding enabled bad_count
-enabling c b k Unlisted = search ends
-enabling c b k (Next t) = search (control-written, ends)
+enabling c b k None = search ends
+enabling c b k (Some t) = search (control-written, ends)
 
 write-flags : (c : Controller) (b : List ℕ) (k : Control) → Blind c (write_flags c k) (write_flags (with_buffer c b) k)
 unfolding write_flags

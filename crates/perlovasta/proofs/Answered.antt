@@ -1,15 +1,16 @@
 -- What the parts of a call for a job promise, put together. Assumes nothing.
-use mathlib.Core.Bool.{true, false}
-use mathlib.Core.List.{List}
+use mathlib.Core.List.{List, ◌++◌}
 use mathlib.Core.Path.{◌≡◌, refl, sym, ap, ◌∙◌}
-use Prim.Native.Nat.{ℕ}
-use lib.Dec.{ltb}
-use lib.ListN.{length}
+use Prim.Native.Nat.{ℕ, ◌<◌, ◌≤◌}
+use borrow.Author.Tests.{lt-ltb, le-ltb}
+use lib.ListN.{length, drop}
 use Rattle.controller.specs.declared.record.Controller.{Controller}
+use Rattle.driver.specs.Run.{Report}
 use Rattle.notation.proofs.Cases.{when-true, when-false}
+use Rattle.notation.proofs.Laid.{laid-whole}
 use Rattle.notation.specs.Overlay.{laid}
 use Rattle.perlovasta.specs.Job.{JobCall, request_report, tells, short_report, job_call_on}
-use Rattle.perlovasta.specs.ReportBytes.{report_of_job}
+use Rattle.perlovasta.specs.ReportBytes.{low_first, report_bytes, report_of_job}
 
 -- the result, and what destination, out record and report are after the call
 abbrev pub Gives : JobCall → ℕ → List ℕ → List ℕ → List ℕ → List ℕ → List ℕ → List ℕ → Type 0
@@ -28,17 +29,24 @@ module _ (c : Controller) (kind address n : ℕ) (payload destination out script
   abbrev call : JobCall
   call = job_call_on c kind address n payload (length destination) (length out) script (length report)
 
-  -- a report that is too short
-  pub short_report_lem : ltb (length report) 12 ≡ true → Gives call 21 destination destination out out report report
-  unfolding job_call_on short_report laid
-  short_report_lem e = gives short_report _ _ _ _ _ _ _ _ (when-true _ _ _ e) (refl, refl, refl, refl)
+  abbrev request : Controller → Report
+  request d = request_report d kind address n payload (length destination) (length out) script
 
-  -- the job was run and reported
-  pub reported : (answer : ℕ) (destination' out' report' : List ℕ) → ltb (length report) 12 ≡ false →
-      answer ≡ (request_report c kind address n payload (length destination) (length out) script).result.answer →
-      destination' ≡ laid (request_report c kind address n payload (length destination) (length out) script).handed destination →
-      out' ≡ laid (request_report c kind address n payload (length destination) (length out) script).sent out →
-      report' ≡ laid (report_of_job (request_report c kind address n payload (length destination) (length out) script)) report →
-      Gives call answer destination destination' out out' report report'
-  unfolding job_call_on tells
-  reported answer destination' out' report' e a h s t = gives _ _ _ _ _ _ _ _ _ (when-false _ _ _ e) (a, h, s, t)
+  -- a report that is too short
+  pub short_report_lem : length report < 12 → Gives call 21 destination destination out out report report
+  unfolding job_call_on short_report laid
+  short_report_lem short = gives short_report _ _ _ _ _ _ _ _ (when-true _ _ _ (lt-ltb (length report) 12 short)) (refl, refl, refl, refl)
+
+  -- the job was run on this controller, and reported
+  pub reported : (d : Controller) (answer : ℕ) (destination' out' told : List ℕ) → d ≡ c → 12 ≤ length report →
+      answer ≡ (request d).result.answer → destination' ≡ laid (request d).handed destination → out' ≡ laid (request d).sent out →
+      told ≡ report_of_job (request d) → Gives call answer destination destination' out out' report (told ++ drop 12 report)
+  unfolding job_call_on tells report_bytes low_first
+  reported d answer destination' out' told e long a h s t =
+      let whole = laid-whole (report_of_job (request c)) report long in
+      gives _ _ _ _ _ _ _ _ _ (when-false _ _ _ (le-ltb (length report) 12 long)) (
+        a ∙ ap (λ (x : Controller). (request x).result.answer) e,
+        h ∙ ap (λ (x : Controller). laid (request x).handed destination) e,
+        s ∙ ap (λ (x : Controller). laid (request x).sent out) e,
+        ap (λ (xs : List ℕ). xs ++ drop 12 report) (t ∙ ap (λ (x : Controller). report_of_job (request x)) e) ∙ sym whole,
+      )

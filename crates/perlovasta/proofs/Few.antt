@@ -18,3 +18,5 @@ unfolding request_report declines
 few-sent c kind address n payload room places script l =
     split (λ (r : Report). length r.sent ≤ 69) (ltb 1 kind) _ _ (λ _. omega arith)
     (λ _. (always-fits (job_for kind address n) payload room places script c l).few)
+
+pub ruleset few = (few-sent)

@@ -1,10 +1,11 @@
 -- Bytes laid after bytes: what two calls put is what one would have put. Assumes nothing.
 use mathlib.Core.List.{List, [], ◌∷◌, ◌++◌}
 use mathlib.Core.Path.{◌≡◌, refl, sym, ap, ◌∙◌}
-use Prim.Native.Nat.{ℕ, zero, suc, ◌+◌, ◌<◌}
-use native.Mathlib.Nat.{le_of_suc-le-suc, not-suc-le-zero}
+use Prim.Native.Nat.{ℕ, zero, suc, ◌+◌, ◌≤◌}
 use native.Mathlib.Omega.{arith}
-use lib.ListN.{length, set}
+use borrow.Rule.Slice.PartMut.{put_mid}
+use lib.ListN.{length, drop, length-drop}
+use Rattle.notation.proofs.Laid.{laid-whole}
 use Rattle.notation.proofs.Overlay.{past_end}
 use Rattle.notation.specs.Overlay.{laid, laid_at}
 
@@ -29,12 +30,9 @@ after_eight at xs ys lent next n e =
     ∙ ap (λ (k : ℕ). laid_at (at + k) ys (laid_at at xs lent)) (sym n)
     ∙ after at xs ys lent
 
--- four bytes put at the start, and others laid after them
-pub after_four : (a b d e : ℕ) (xs lent : List ℕ) → 3 < length lent →
-    laid_at 4 xs (set (set (set (set lent 0 a) 1 b) 2 d) 3 e) ≡ laid (a ∷ b ∷ d ∷ e ∷ xs) lent
-unfolding laid_at laid
-after_four a b d e xs [] h = absurd (not-suc-le-zero h)
-after_four a b d e xs (x ∷ []) h = absurd (not-suc-le-zero (le_of_suc-le-suc h))
-after_four a b d e xs (x ∷ y ∷ []) h = absurd (not-suc-le-zero (le_of_suc-le-suc (le_of_suc-le-suc h)))
-after_four a b d e xs (x ∷ y ∷ z ∷ []) h = absurd (not-suc-le-zero (le_of_suc-le-suc (le_of_suc-le-suc (le_of_suc-le-suc h))))
-after_four a b d e xs (x ∷ y ∷ z ∷ w ∷ lent) h = refl
+-- eight bytes that were copied into their place are laid there
+pub copied_eight : (at k : ℕ) (xs lent : List ℕ) → k ≡ 8 → length xs ≡ 8 → at + 8 ≤ length lent → put_mid at k lent xs ≡ laid_at at xs lent
+unfolding laid_at
+copied_eight at k xs lent e n room =
+    let rest = length-drop at lent in
+    rw (e, laid-whole xs (drop at lent) (omega (arith, rest, n, room)), n) refl

@@ -1,8 +1,7 @@
 -- The eight bytes of the library's log for one group: what the access or event answered, and the record after it (document 01, The
 -- controller record).
 use Rattle.std.specs.Prelude.{Bool, List, [], ◌∷◌, ℕ, ◌+◌, ◌*◌, ◌%◌, eqb}
-use Rattle.answer.specs.Refusal.{refusal_of, value_of}
-use Rattle.answer.specs.declared.Answer.{Answer}
+use Rattle.answer.specs.Refusal.{Answer, refusal_of, value_of}
 use Rattle.control.specs.Reason.{reason_number}
 use Rattle.control.specs.Turn.{host, status_of}
 use Rattle.control.specs.declared.reason.Reason.{Reason}

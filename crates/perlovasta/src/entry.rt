@@ -6,6 +6,7 @@ ghost use Rattle.perlovasta.specs.Trace.{trace_call};
 
 use crate::job::run_reported;
 use crate::trace::{is_bad, put_log};
+use answer::ending::Ending;
 use controller::record::Controller;
 use requests::jobs::fresh_enabled;
 
@@ -35,14 +36,11 @@ pub fn perlovasta_job(
         ≡ laid (job_call kind address n payload.now
         (length destination.old) (length out.old) script.now (length report.old)).told report.old }
 {
-    let short = report.len() < 12;
-    if short {
-        return 21;
-    }
-    let c = fresh_enabled();
-    let mut nowhere = [0u8; 1];
+    let Some(report) = report.first_chunk_mut() else {
+        return Ending::Malformed.number();
+    };
     run_reported(
-        c,
+        fresh_enabled(),
         kind,
         address,
         n,
@@ -51,7 +49,7 @@ pub fn perlovasta_job(
         out,
         script,
         report,
-        &mut nowhere,
+        &mut [],
     )
 }
 
@@ -61,12 +59,8 @@ pub fn perlovasta_trace(trace: &[u8], log: &mut [u8]) -> u8
     ensures answer { result ≡ (trace_call trace.now (length log.old)).answer }
     ensures logged { log.new ≡ laid (trace_call trace.now (length log.old)).logged log.old }
 {
-    if is_bad(trace) {
-        return 21;
-    }
-    let short = log.len() / 8 < trace.len() / 3;
-    if short {
-        return 21;
+    if is_bad(trace) || log.len() / 8 < trace.len() / 3 {
+        return Ending::Malformed.number();
     }
     put_log(Controller::fresh(), trace, log);
     0

@@ -5,6 +5,5 @@ pub mod chip;
 pub mod entry;
 mod job;
 mod log;
-mod memory;
 mod report;
 mod trace;

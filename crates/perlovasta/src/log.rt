@@ -3,28 +3,26 @@ ghost use Rattle.std.specs.Prelude.{◌≡◌, true};
 ghost use Rattle.controller.specs.Record.{sound};
 ghost use Rattle.perlovasta.specs.Log.{logged_turn, pointer_byte, leaves, entry_of};
 
-use answer::Answer;
+use answer::{Answer, refusal_of, value_of};
 use control::reason::Reason;
-use control::turn::Turn;
+use control::turn::{Edge, Turn};
 use controller::record::Controller;
 use virtual_chip::numbers::turn_number;
 
 // The turn's number. That a START came is told at A0h alone.
+#[tactic(auto, unfolding(crate::specs::Log::logged_turn, virtual_chip::specs::Numbers::turn_number, virtual_chip::specs::Numbers::host_number, control::specs::Turn::status_of), using(notation::proofs::Cases::cases))]
 fn log_turn(turn: Turn) -> u8
     ensures { result ≡ logged_turn turn }
 {
-    let number = turn_number(turn);
-    let started = number == 17;
-    if started {
-        let status = turn.status();
-        let ended = status == 0xA0;
-        if ended { 17 } else { 1 }
-    } else {
-        number
+    match turn {
+        Turn::Host(0xA0, Edge::Start) => 17,
+        Turn::Host(_, _) => 1,
+        _ => turn_number(turn),
     }
 }
 
 // The pointer, the reason's number above it, and the highest bit where a software reset is armed.
+#[tactic(auto, unfolding(crate::specs::Log::pointer_byte), using(notation::proofs::Cases::cases))]
 fn mark_pointer(pointer: u8, reason: Reason, armed: bool) -> u8
     ensures { result ≡ pointer_byte pointer reason armed }
 {
@@ -33,21 +31,18 @@ fn mark_pointer(pointer: u8, reason: Reason, armed: bool) -> u8
 }
 
 // The bytes for one group: what it answered, and the record after it. (Of a sound record registers 0 and 3 read these two bytes.)
-pub(crate) fn log_entry(answer: Answer, c: Controller) -> [u8; 8]
-    requires { sound c ≡ true }
-    ensures { result ≡ entry_of (leaves answer c) }
+pub(crate) fn log_entry(answer: Answer, c: &Controller) -> [u8; 8]
+    requires { sound c.now ≡ true }
+    ensures { result ≡ entry_of (leaves answer c.now) }
 {
-    let turn = c.turn;
-    let flags = c.control;
-    let reason = c.reason;
     [
-        answer.refused(),
-        answer.value(),
-        turn.status(),
-        flags.byte(turn.interrupts()),
+        refusal_of(answer),
+        value_of(answer),
+        c.turn.status(),
+        c.control.byte(c.turn.interrupts()),
         c.hand,
         c.moved,
-        mark_pointer(c.pointer, reason, c.armed),
-        log_turn(turn),
+        mark_pointer(c.pointer, c.reason, c.armed),
+        log_turn(c.turn),
     ]
 }

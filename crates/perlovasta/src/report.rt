@@ -1,36 +1,22 @@
 // The report of a job.
-ghost use Rattle.std.specs.Prelude.{◌≡◌, ◌≤◌, length};
+ghost use Rattle.std.specs.Prelude.{◌≡◌, ◌≤◌};
 ghost use Rattle.driver.specs.Run.{result_of};
-ghost use Rattle.notation.specs.Overlay.{laid};
-ghost use Rattle.perlovasta.specs.ReportBytes.{low_first, report_bytes};
+ghost use Rattle.perlovasta.specs.ReportBytes.{report_bytes};
 
-use crate::memory::put_eight;
 use driver::result::JobResult;
 
-// A number as eight bytes, low byte first.
-fn low_first(n: usize) -> [u8; 8]
-    ensures { result ≡ low_first 8 n }
+// The 12 bytes.
+#[tactic(auto, unfolding(crate::specs::ReportBytes::report_bytes, driver::specs::Run::result_of), using(crate::proofs::Numbers::low_bytes))]
+pub(crate) fn put_report(report: &mut [u8; 12], res: JobResult)
+    requires { res.sent ≤ 69 }
+    ensures { report.new ≡ report_bytes (result_of res) res.sent }
 {
-    let mut bytes = [0u8; 8];
-    let mut left = n;
-    let mut i = 0;
-    while i < 8 {
-        bytes[i] = (left % 256) as u8;
-        left /= 256;
-        i += 1;
-    }
-    bytes
-}
-
-// The 12 bytes, at the start of the report.
-pub(crate) fn put_report(report: &mut [u8], res: JobResult)
-    requires { (12 ≤ length report.old) × (res.sent ≤ 69) }
-    ensures { report.new ≡ laid (report_bytes (result_of res) res.sent) report.old }
-{
-    let ending = res.ending;
-    report[0] = ending.number();
-    report[1] = ending.beside();
-    report[2] = res.count;
-    report[3] = res.sent as u8;
-    put_eight(report, 4, low_first(res.events));
+    let (head, events) = report.split_at_mut(4);
+    head.copy_from_slice(&[
+        res.ending.number(),
+        res.ending.beside(),
+        res.count,
+        res.sent as u8,
+    ]);
+    events.copy_from_slice(&res.events.to_le_bytes());
 }

@@ -3,3 +3,4 @@ pub mod Totals
 pub mod Nth
 pub mod Begun
 pub mod SameJob
+pub mod Stages

@@ -3,15 +3,13 @@ use mathlib.Core.Bool.{true}
 use mathlib.Core.List.{List, [], ◌∷◌, ◌++◌, map}
 use mathlib.Core.Logic.{inl, inr}
 use mathlib.Core.Path.{◌≡◌, refl, ap, ◌∙◌}
-use Prim.Native.Nat.{ℕ, zero, suc, ◌+◌, ◌≤◌, ◌<◌}
+use Prim.Native.Nat.{ℕ, zero, suc, ◌+◌, ◌≤◌, ◌<◌, min}
 use native.Mathlib.Omega.{arith}
 use borrow.Author.Tests.{ltb-true, ltb-false}
 use lib.Dec.{eqb, ltb}
-use lib.ListN.{length, get_or, take, length-append, length-map}
-use lib.Seq.{length-take-le, take_all}
+use lib.ListN.{length, get_or, take, length-append, length-map, length-take}
 use types.Run.{OneOf}
 use Rattle.notation.proofs.Cases.{split}
-use Rattle.notation.specs.Choice.{when◌then◌else◌}
 use Rattle.port.specs.InHand.{reads_from, accesses, nth}
 use Rattle.service.specs.Act.{Act, writes, reads_data, reads_count, counts, Work, read_times}
 use Rattle.service.specs.JobTable.{job_table}
@@ -47,19 +45,10 @@ nth_last (x ∷ []) last (suc k) h = refl
 nth_last (x ∷ y ∷ ys) last zero h = absurd (omega arith)
 nth_last (x ∷ y ∷ ys) last (suc k) h = nth_last (y ∷ ys) last k (omega arith)
 
--- n bytes, of so many that there are
-pub length_least : (n : ℕ) (xs : List ℕ) → length (take n xs) ≡ (when ltb n (length xs) then n else length xs)
-length_least n xs =
-    split (λ (k : ℕ). length (take n xs) ≡ k) (ltb n (length xs)) n (length xs)
-    (λ less. length-take-le n xs (omega (arith, ltb-true n (length xs) less)))
-    (λ more. ap length (take_all n xs (ltb-false n (length xs) more)))
-
-pub least_fits : (n lent : ℕ) → (when ltb n lent then n else lent) ≤ n
-least_fits n lent = split (λ (k : ℕ). k ≤ n) (ltb n lent) n lent (λ less. omega arith) (λ more. ltb-false n lent more)
-
-pub times_fit : (n : ℕ) → read_times n ≤ 68
+-- there are 68 places
+pub times_is : (n : ℕ) → min n 68 ≡ read_times n
 unfolding read_times
-times_fit n = split (λ (k : ℕ). k ≤ 68) (ltb 68 n) 68 n (λ more. omega arith) (λ less. ltb-false 68 n less)
+times_is n = split (λ (k : ℕ). min n 68 ≡ k) (ltb 68 n) 68 n (λ more. omega (arith, ltb-true)) (λ less. omega (arith, ltb-false))
 
 -- The reads of I2CDAT.
 
@@ -81,9 +70,9 @@ data_accesses count [] ys = refl
 data_accesses count (x ∷ xs) ys = ap (λ (zs : List Act). writes 1 x ∷ zs) (data_accesses count xs ys)
 
 pub data_total : (count n : ℕ) (payload : List ℕ) →
-    length (accesses count (map (writes 1) (take n payload) ++ (writes 3 0x41 ∷ []))) ≡ (when ltb n (length payload) then n else length payload) + 1
+    length (accesses count (map (writes 1) (take n payload) ++ (writes 3 0x41 ∷ []))) ≡ min n (length payload) + 1
 unfolding accesses
-data_total count n payload = simp (data_accesses, length-append, length-map, length_least)
+data_total count n payload = simp (data_accesses, length-append, length-map, length-take)
 
 -- P holds of each of these acts
 abbrev pub All : (Act → Type 0) → List Act → Type 0

@@ -1,5 +1,5 @@
 -- What the port does next, by what it last asked for and the value that was read (0 where nothing was).
-use Rattle.std.specs.Prelude.{false, not, List, ℕ, ◌+◌, eqb, ltb, length}
+use Rattle.std.specs.Prelude.{false, not, List, ℕ, ◌+◌, eqb, ltb, length, Option, None, Some}
 use Rattle.answer.specs.Ending.{number_of}
 use Rattle.control.specs.Flags.{flags_of}
 use Rattle.notation.specs.Choice.{when◌then◌else◌, ◌and◌, among}
@@ -72,6 +72,11 @@ hears s payload value = hears_at s.stage s payload value
 -- the place at which the value is noted; 68 is none
 unfoldable pub noted_at : Stand → List ℕ → ℕ
 noted_at s payload = when eqb (stage_number s.stage) working then place_of (access s payload) else 68
+
+-- a place as this number
+abbrev pub place_number : Option ℕ → ℕ
+place_number None = 68
+place_number (Some place) = place
 
 -- what is asked for at a stage
 unfoldable pub asks_at : Stage → Stand → List ℕ → Ask

@@ -2,7 +2,7 @@
 ghost use Rattle.std.specs.Prelude.{◌≡◌};
 ghost use Rattle.port.specs.Ask.{ask_number};
 
-#[derive(Clone, Copy)]
+#[derive(Clone, Copy, Debug, PartialEq, Eq)]
 pub enum Ask {
     // Write this register, with this value.
     Write(u8, u8),
@@ -12,27 +12,24 @@ pub enum Ask {
     Wait,
     // Wait for the chip's oscillator.
     Pause,
-    // Nothing any more: the answer, and its count.
+    // Nothing any more: the answer, and its count. (A number and no Ending, as `answer` of Stand is: `asks` tells any that the state holds.)
     Over(u8, u8),
 }
 
-impl Ask {
-    // The step as one number.
-    pub fn number(self) -> u32
-        ensures { result ≡ ask_number self }
-    {
-        match self {
-            Ask::Write(register, value) => 1 + 256 * wide(register) + 65536 * wide(value),
-            Ask::Read(register) => 2 + 256 * wide(register),
+// The step as one number.
+impl From<Ask> for u32 {
+    ghost from_gives = { λ ask k. k ≡ ask_number ask };
+
+    #[tactic(auto, unfolding(crate::specs::Ask::ask_number))]
+    fn from(ask: Ask) -> u32 {
+        match ask {
+            Ask::Write(register, value) => {
+                1 + 256 * u32::from(register) + 65536 * u32::from(value)
+            }
+            Ask::Read(register) => 2 + 256 * u32::from(register),
             Ask::Wait => 3,
             Ask::Pause => 4,
-            Ask::Over(answer, count) => 5 + 256 * wide(answer) + 65536 * wide(count),
+            Ask::Over(answer, count) => 5 + 256 * u32::from(answer) + 65536 * u32::from(count),
         }
     }
-}
-
-fn wide(x: u8) -> u32
-    ensures { result ≡ x }
-{
-    x as u32
 }

@@ -9,7 +9,6 @@ ghost use Rattle.service.specs.Act.{writes, read_times};
 ghost use Rattle.service.specs.JobSteps.{begins, finds_moved, stop_after};
 
 use crate::ask::Ask;
-use crate::in_hand::{least, times};
 use crate::stage::Stage;
 use crate::stand::Stand;
 use service::table::count_of;
@@ -31,12 +30,9 @@ impl Stand {
     fn ask_first(self) -> Ask
         ensures { result ≡ ask_for (nth (begins self.job) self.made) }
     {
-        let job = self.job;
-        let direction = job.direction;
-        let made = self.made;
-        match made {
+        match self.made {
             0 => Ask::Write(0, 0x00),
-            1 => Ask::Write(2, count_of(direction, job.n)),
+            1 => Ask::Write(2, count_of(self.job.direction, self.job.n)),
             _ => Ask::Write(3, 0x60),
         }
     }
@@ -45,52 +41,46 @@ impl Stand {
     fn ask_address(self) -> Ask
         ensures { result ≡ ask_for (nth (writes 1 (byte_of self.job.address self.job.direction).0 ∷ writes 3 0x40 ∷ []) self.made) }
     {
-        let first = self.made == 0;
+        let first = self.made == 0; // a name of its own, by which the proof and its wrong program go
         if first {
-            let job = self.job;
-            let address = job.address;
-            let direction = job.direction;
-            let byte = address.byte(direction);
-            return Ask::Write(1, byte.0);
+            Ask::Write(1, self.job.address.byte(self.job.direction).0)
+        } else {
+            Ask::Write(3, 0x40)
         }
-        Ask::Write(3, 0x40)
     }
 
     // 18h: the data.
     fn ask_data(self, payload: &[u8]) -> Ask
         ensures { result ≡ ask_for (nth (map (writes 1) (take self.job.n payload.now) ++ (writes 3 0x41 ∷ [])) self.made) }
     {
-        let i = self.made as usize;
-        if i < least(self.job.n, payload.len()) {
-            return Ask::Write(1, payload[i]);
+        match self.bytes(payload).get(usize::from(self.made)) {
+            Some(byte) => Ask::Write(1, *byte),
+            None => Ask::Write(3, 0x41),
         }
-        Ask::Write(3, 0x41)
     }
 
     // 58h: the bytes that came in.
     fn ask_back(self) -> Ask
         ensures { result ≡ ask_for (nth (reads_from (read_times self.job.n) 0 ++ (writes 3 0x50 ∷ [])) self.made) }
     {
-        if (self.made as usize) < times(self.job.n) {
-            return Ask::Read(1);
+        if self.made < self.reads() {
+            Ask::Read(1)
+        } else {
+            Ask::Write(3, 0x50)
         }
-        Ask::Write(3, 0x50)
     }
 
     // One of the accesses of the work at a status. (58h and 18h have one for each byte, and come first for speed.)
     fn ask_work(self, payload: &[u8]) -> Ask
         ensures { result ≡ ask_for (nth (accesses self.count (line self payload.now).acts) self.made) }
     {
-        let status = self.status;
-        let reading = status == 0x58;
-        if reading {
+        if self.status == 0x58 {
             return self.ask_back();
         }
-        let sending = status == 0x18;
-        if sending {
+        if self.status == 0x18 {
             return self.ask_data(payload);
         }
-        match status {
+        match self.status {
             0x08 => self.ask_address(),
             0x40 => Ask::Write(3, 0x41),
             0x20 | 0x28 | 0x48 => Ask::Write(3, 0x50),
@@ -104,53 +94,43 @@ impl Stand {
     fn ask_setting(self, payload: &[u8], i: usize) -> Ask
         ensures { result ≡ ask_for (nth (alternates 0 2 (take self.job.n payload.now) ++ (writes 3 0x40 ∷ [])) i) }
     {
-        if i < least(self.job.n, payload.len()) {
-            let value = payload[i];
-            let pointer = i % 2 == 0;
-            if pointer {
-                return Ask::Write(0, value);
-            }
-            return Ask::Write(2, value);
+        match self.bytes(payload).get(i) {
+            Some(value) if i % 2 == 0 => Ask::Write(0, *value),
+            Some(value) => Ask::Write(2, *value),
+            None => Ask::Write(3, 0x40),
         }
-        Ask::Write(3, 0x40)
     }
 
     // One of the writes of a recovery.
     fn ask_recovery(self, payload: &[u8]) -> Ask
         ensures { result ≡ ask_for (nth (recovers (take self.job.n payload.now)) self.made) }
     {
-        let made = self.made;
-        match made {
+        match self.made {
             0 => Ask::Write(0, 0x05),
             1 => Ask::Write(2, 0xA5),
             2 => Ask::Write(2, 0x5A),
-            _ => self.ask_setting(payload, (made as usize) - 3),
+            made => self.ask_setting(payload, usize::from(made) - 3),
         }
     }
 
     // What is asked for first, where something was just begun or broken off. (`ask` is left to the step: a function with one caller is compiled into it.)
+    #[tactic(auto, unfolding(crate::specs::Hear::first_ask), using(crate::proofs::Stages::tag_number, notation::proofs::Cases::cases))]
     pub fn ask_begun(self) -> Ask
         ensures { result ≡ first_ask self }
     {
-        let stage = self.stage;
-        let number = stage.number();
-        let control = number == 1;
-        if control {
-            return Ask::Read(3);
+        match self.stage {
+            Stage::Control => Ask::Read(3),
+            Stage::Recovering => Ask::Write(0, 0x05),
+            _ => Ask::Over(self.answer, self.count),
         }
-        let recovering = number == 8;
-        if recovering {
-            return Ask::Write(0, 0x05);
-        }
-        Ask::Over(self.answer, self.count)
     }
 
     // What is asked for at this stage.
+    #[tactic(auto, unfolding(crate::specs::Hear::asks, crate::specs::Hear::asks_at, crate::specs::InHand::in_hand_at))]
     pub fn ask(self, payload: &[u8]) -> Ask
         ensures { result ≡ asks self payload.now }
     {
-        let stage = self.stage;
-        match stage {
+        match self.stage {
             Stage::Over => Ask::Over(self.answer, self.count),
             Stage::Control => Ask::Read(3),
             Stage::Status => Ask::Read(0),

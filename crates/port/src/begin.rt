@@ -6,6 +6,7 @@ ghost use Rattle.port.specs.Stand.{stand};
 
 use crate::stage::Stage;
 use crate::stand::{Stand, no_job};
+use answer::ending::Ending;
 use service::checks::is_malformed;
 use service::job::Job;
 
@@ -13,24 +14,15 @@ use service::job::Job;
 fn is_settable(pointer: u8) -> bool
     ensures { result ≡ among pointer settable }
 {
-    match pointer {
-        0 | 1 | 2 | 3 | 4 | 6 => true,
-        _ => false,
-    }
+    matches!(pointer, 0 | 1 | 2 | 3 | 4 | 6)
 }
 
-// Not pairs of such a pointer and a value.
+// Not pairs of such a pointer and a value. (No `any` over the pieces: tried, and the check left its goal open.)
 fn has_bad_pair(settings: &[u8]) -> bool
     ensures { result ≡ bad_pairs settings.now }
 {
-    let mut i = 0;
-    while i < settings.len() {
-        if settings.len() - i < 2 {
-            return true;
-        }
-        if is_settable(settings[i]) {
-            i += 2;
-        } else {
+    for pair in settings.chunks(2) {
+        if pair.len() < 2 || !is_settable(pair[0]) {
             return true;
         }
     }
@@ -38,55 +30,45 @@ fn has_bad_pair(settings: &[u8]) -> bool
 }
 
 // Settings that no recovery takes.
+#[tactic(auto, unfolding(crate::specs::Begin::bad_settings), using(notation::proofs::Cases::cases))]
 fn is_bad(settings: &[u8]) -> bool
     ensures { result ≡ bad_settings settings.now }
 {
-    let many = 12 < settings.len();
-    if many {
-        return true;
-    }
-    has_bad_pair(settings)
+    12 < settings.len() || has_bad_pair(settings)
 }
 
-// The first stage of something new, with answer 27 until it is over.
+// The first stage of something new, unfinished until it is over.
 fn begin(stage: Stage, job: Job, stale: bool) -> Stand
     ensures { result ≡ stand stage job 0 0 false 27 0 stale }
 {
     Stand {
         stage,
         job,
-        status: 0,
-        made: 0,
-        due: false,
-        answer: 27,
-        count: 0,
         stale,
+        ..Stand::break_off(Ending::Unfinished, stale)
     }
 }
 
 impl Stand {
     // The chip has to be brought back first.
+    #[tactic(auto, unfolding(crate::specs::Begin::unsettled), using(crate::proofs::Stages::tag_number, notation::proofs::Cases::cases))]
     fn is_unsettled(self) -> bool
         ensures { result ≡ unsettled self }
     {
-        let stage = self.stage;
-        let over = stage.number() == 0;
-        if over {
-            return self.stale;
-        }
-        true
+        self.stage != Stage::Over || self.stale
     }
 
     // A job begins, with so many bytes of data lent.
+    #[tactic(auto, unfolding(crate::specs::Begin::start_of), using(notation::proofs::Cases::cases))]
     pub fn start(self, job: Job, lent: usize) -> Stand
         ensures { result ≡ start_of self job lent }
     {
         let unsettled = self.is_unsettled();
         if is_malformed(job, lent, 68, 69, 0) {
-            return Stand::break_off(21, unsettled);
+            return Stand::break_off(Ending::Malformed, unsettled);
         }
         if unsettled {
-            return Stand::break_off(22, true);
+            return Stand::break_off(Ending::NotReady, true);
         }
         begin(Stage::Control, job, false)
     }
@@ -96,16 +78,16 @@ impl Stand {
         ensures { result ≡ recover_of self settings.now }
     {
         if is_bad(settings) {
-            return Stand::break_off(21, self.is_unsettled());
+            return Stand::break_off(Ending::Malformed, self.is_unsettled());
         }
-        let job = no_job(settings.len() as u8);
-        begin(Stage::Recovering, job, true)
+        begin(Stage::Recovering, no_job(settings.len() as u8), true)
     }
 
     // All is given up.
+    #[tactic(auto, unfolding(crate::specs::Begin::give_up_of))]
     pub fn give_up(self) -> Stand
         ensures { result ≡ give_up_of self }
     {
-        Stand::break_off(27, true)
+        Stand::break_off(Ending::Unfinished, true)
     }
 }

@@ -5,31 +5,28 @@ ghost use Rattle.port.specs.Hear.{enters, looked, next_of, hears_at, hears};
 ghost use Rattle.port.specs.Look.{meets};
 ghost use Rattle.service.specs.JobTable.{job_table};
 
-use crate::in_hand::least;
 use crate::look::{interrupts, is_idle, is_met, is_still};
 use crate::stage::Stage;
 use crate::stand::Stand;
+use answer::ending::Ending;
 use control::flags::Control;
 
 impl Stand {
     // After a wait, by I2CCON.
+    #[tactic(auto, unfolding(crate::specs::Hear::looked), using(notation::proofs::Cases::cases))]
     fn look(self, value: u8) -> Stand
         ensures { result ≡ looked self value }
     {
-        let flags = Control::of_byte(value);
-        if flags.ensio {
-            if interrupts(value) {
-                return self.at(Stage::Interrupted);
-            }
-            if self.due {
-                if flags.sto {
-                    return self.at(Stage::Waiting);
-                }
-                return self.end(self.answer, self.count);
-            }
-            return self.at(Stage::Waiting);
+        let flags = Control::from(value);
+        if !flags.ensio {
+            self.end(Ending::Reset)
+        } else if interrupts(value) {
+            self.at(Stage::Interrupted)
+        } else if self.due && !flags.sto {
+            self.finish()
+        } else {
+            self.at(Stage::Waiting)
         }
-        self.end(29, 0)
     }
 
     // The work at a status begins.
@@ -38,20 +35,19 @@ impl Stand {
         ensures { (payload : List ℕ) → result ≡ enters self status (job_table self.job payload status self.count) }
     {
         match status {
-            0x00 | 0x70 | 0x78 => self.at_work(Stage::Working, status, self.count).end(26, 0),
-            0x20 | 0x48 => self.at_work(Stage::Working, status, 0),
-            0x28 | 0x58 => self.at_work(Stage::Working, status, self.job.n),
-            _ => self.at_work(Stage::Working, status, self.count),
+            0x00 | 0x70 | 0x78 => self.at_work(status, self.count).end(Ending::Fault),
+            0x20 | 0x48 => self.at_work(status, 0),
+            0x28 | 0x58 => self.at_work(status, self.job.n),
+            _ => self.at_work(status, self.count),
         }
     }
 
     // I2CSTA was read, since SI was 1.
+    #[tactic(auto, unfolding(crate::specs::Hear::hears_at), using(notation::proofs::Cases::cases))]
     fn serve(self, payload: &[u8], status: u8) -> Stand
         ensures { result ≡ hears_at Stage.Interrupted self payload.now status }
     {
-        let job = self.job;
-        let direction = job.direction;
-        if is_met(direction, status) {
+        if is_met(self.job.direction, status) {
             self.enter(status)
         } else {
             self.at(Stage::Waiting)
@@ -59,29 +55,27 @@ impl Stand {
     }
 
     // The next access of a line; where the bytes of a read are read back and 50h alone is left, I2CCON is looked at first.
+    #[tactic(auto, unfolding(crate::specs::Hear::next_of), using(notation::proofs::Cases::cases))]
     fn next_of(self, total: usize) -> Stand
         requires { (self.made + 1 < total) × (total ≤ 255) }
         ensures { result ≡ next_of self total }
     {
-        let reading = self.status == 0x58;
-        if reading {
-            let last = (self.made as usize) + 2 == total;
-            if last {
-                return self.advance().at(Stage::Recheck);
-            }
-            return self.advance();
+        if self.status == 0x58 && usize::from(self.made) + 2 == total {
+            self.advance().at(Stage::Recheck)
+        } else {
+            self.advance()
         }
-        self.advance()
     }
 
     // I2CCON, after the bytes of a read were read back: they count only if nothing has happened to the chip meanwhile.
+    #[tactic(auto, unfolding(crate::specs::Hear::hears_at), using(notation::proofs::Cases::cases))]
     fn recheck(self, value: u8) -> Stand
         ensures { result ≡ hears_at Stage.Recheck self [] value }
     {
         if is_still(value) {
             self.at(Stage::Working)
         } else {
-            self.end(29, 0)
+            self.end(Ending::Reset)
         }
     }
 
@@ -91,52 +85,49 @@ impl Stand {
         ensures { result ≡ hears_at Stage.Working self payload.now value }
     {
         let total = self.work_total(payload);
-        let more = (self.made as usize) + 1 < total;
-        let noted = self.with_count(self.note_count(value));
-        if more {
-            return noted.next_of(total);
+        let noted = Stand {
+            count: self.note_count(value),
+            ..self
+        };
+        if usize::from(self.made) + 1 < total {
+            noted.next_of(total)
+        } else {
+            noted.conclude()
         }
-        noted.conclude()
     }
 
     // The chip is brought back.
+    #[tactic(auto, unfolding(crate::specs::Hear::hears_at))]
     fn recover(self) -> Stand
         ensures { result ≡ hears_at Stage.Pausing self [] 0 }
     {
-        let mut settled = self.end(0, 0);
-        settled.stale = false;
-        settled
+        Stand {
+            stale: false,
+            ..self.end(Ending::Done)
+        }
     }
 
     // Where the job stands once the value is heard.
+    #[tactic(auto, unfolding(crate::specs::Hear::hears, crate::specs::Hear::hears_at, crate::specs::Hear::onward, crate::specs::InHand::in_hand_at), using(notation::proofs::Cases::cases))]
     pub fn hear(self, payload: &[u8], value: u8) -> Stand
         requires { length payload.now ≤ 68 }
         ensures { result ≡ hears self payload.now value }
     {
-        let stage = self.stage;
-        match stage {
+        match self.stage {
             Stage::Over => self,
-            Stage::Control => {
-                if is_idle(value) {
-                    self.at(Stage::Status)
-                } else {
-                    self.end(22, 0)
-                }
-            }
-            Stage::Status => {
-                let idle = value == 0xF8;
-                if idle {
-                    self.at_first(Stage::First)
-                } else {
-                    self.end(22, 0)
-                }
-            }
+            Stage::Control if is_idle(value) => self.at(Stage::Status),
+            Stage::Status if value == 0xF8 => Stand {
+                stage: Stage::First,
+                made: 0,
+                ..self
+            },
+            Stage::Control | Stage::Status => self.end(Ending::NotReady),
             Stage::First => self.onward(3, Stage::Waiting),
             Stage::Waiting => self.at(Stage::Look),
             Stage::Look => self.look(value),
             Stage::Interrupted => self.serve(payload, value),
             Stage::Working => self.work(payload, value),
-            Stage::Recovering => self.onward(least(self.job.n, payload.len()) + 4, Stage::Pausing),
+            Stage::Recovering => self.onward(self.bytes(payload).len() + 4, Stage::Pausing),
             Stage::Pausing => self.recover(),
             Stage::Recheck => self.recheck(value),
         }

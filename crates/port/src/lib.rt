@@ -6,7 +6,7 @@ mod asking;
 mod begin;
 mod hand_up;
 mod hear;
-pub mod in_hand;
+mod in_hand;
 mod look;
 pub mod stage;
 pub mod stand;

@@ -7,6 +7,7 @@ use address::number::Direction;
 use control::flags::Control;
 
 // SI.
+#[tactic(auto, unfolding(crate::specs::Look::interrupt_in))]
 pub(crate) fn interrupts(value: u8) -> bool
     ensures { result ≡ interrupt_in value }
 {
@@ -14,52 +15,20 @@ pub(crate) fn interrupts(value: u8) -> bool
 }
 
 // ENSIO 1, and STA, STO and SI 0.
+#[tactic(auto, unfolding(crate::specs::Look::idle_control), using(notation::proofs::Cases::cases))]
 pub(crate) fn is_idle(value: u8) -> bool
     ensures { result ≡ idle_control value }
 {
-    let flags = Control::of_byte(value);
-    if flags.ensio {
-        if flags.sta {
-            return false;
-        }
-        if flags.sto {
-            return false;
-        }
-        return !interrupts(value);
-    }
-    false
+    let flags = Control::from(value);
+    flags.ensio && !flags.sta && !flags.sto && !interrupts(value)
 }
 
 // ENSIO 1 and SI 1.
+#[tactic(auto, unfolding(crate::specs::Look::still_control), using(notation::proofs::Cases::cases))]
 pub(crate) fn is_still(value: u8) -> bool
     ensures { result ≡ still_control value }
 {
-    let flags = Control::of_byte(value);
-    if flags.ensio {
-        interrupts(value)
-    } else {
-        false
-    }
-}
-
-// A status that a write can meet.
-fn is_of_write(status: u8) -> bool
-    ensures { result ≡ among status (meets Direction.Write) }
-{
-    match status {
-        0x08 | 0x18 | 0x20 | 0x28 | 0x30 | 0x38 | 0x00 | 0x70 | 0x78 => true,
-        _ => false,
-    }
-}
-
-// A status that a read can meet.
-fn is_of_read(status: u8) -> bool
-    ensures { result ≡ among status (meets Direction.Read) }
-{
-    match status {
-        0x08 | 0x40 | 0x48 | 0x58 | 0x38 | 0x00 | 0x70 | 0x78 => true,
-        _ => false,
-    }
+    Control::from(value).ensio && interrupts(value)
 }
 
 // A status that a job in this direction can meet.
@@ -67,7 +36,13 @@ pub(crate) fn is_met(direction: Direction, status: u8) -> bool
     ensures { result ≡ among status (meets direction) }
 {
     match direction {
-        Direction::Write => is_of_write(status),
-        Direction::Read => is_of_read(status),
+        Direction::Write => matches!(
+            status,
+            0x08 | 0x18 | 0x20 | 0x28 | 0x30 | 0x38 | 0x00 | 0x70 | 0x78
+        ),
+        Direction::Read => matches!(
+            status,
+            0x08 | 0x40 | 0x48 | 0x58 | 0x38 | 0x00 | 0x70 | 0x78
+        ),
     }
 }

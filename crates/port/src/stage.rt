@@ -2,56 +2,47 @@
 ghost use Rattle.std.specs.Prelude.{◌≡◌};
 ghost use Rattle.port.specs.Stage.{stage_number, stage_for};
 
-#[derive(Clone, Copy)]
+#[derive(Clone, Copy, Debug, PartialEq, Eq)]
 pub enum Stage {
     // Nothing: it is over, with an answer.
-    Over,
+    Over = 0,
     // I2CCON, before the first write.
-    Control,
+    Control = 1,
     // I2CSTA, before the first write.
-    Status,
+    Status = 2,
     // One of the first writes of a job.
-    First,
+    First = 3,
     // A wait.
-    Waiting,
+    Waiting = 4,
     // I2CCON, after a wait.
-    Look,
+    Look = 5,
     // I2CSTA, since SI was 1.
-    Interrupted,
+    Interrupted = 6,
     // One of the accesses of the work at a status.
-    Working,
+    Working = 7,
     // One of the writes of a recovery.
-    Recovering,
+    Recovering = 8,
     // The pause that ends a recovery.
-    Pausing,
+    Pausing = 9,
     // I2CCON, after the bytes of a read were read back.
-    Recheck,
+    Recheck = 10,
 }
 
-impl Stage {
-    // The number in the state's bytes.
-    pub fn number(self) -> u8
-        ensures { result ≡ stage_number self }
-    {
-        match self {
-            Stage::Over => 0,
-            Stage::Control => 1,
-            Stage::Status => 2,
-            Stage::First => 3,
-            Stage::Waiting => 4,
-            Stage::Look => 5,
-            Stage::Interrupted => 6,
-            Stage::Working => 7,
-            Stage::Recovering => 8,
-            Stage::Pausing => 9,
-            Stage::Recheck => 10,
-        }
-    }
+// The number in the state's bytes.
+impl From<Stage> for u8 {
+    ghost from_gives = { λ stage k. k ≡ stage_number stage };
 
-    // The stage with this number.
-    pub fn of_number(k: u8) -> Stage
-        ensures { result ≡ stage_for k }
-    {
+    #[tactic(auto, using(crate::proofs::Stages::tag_number))]
+    fn from(stage: Stage) -> u8 {
+        stage as u8
+    }
+}
+
+// The stage with this number; any other number is Over, since the lent bytes may hold any.
+impl From<u8> for Stage {
+    ghost from_gives = { λ k stage. stage ≡ stage_for k };
+
+    fn from(k: u8) -> Stage {
         match k {
             1 => Stage::Control,
             2 => Stage::Status,

@@ -1,21 +1,24 @@
 // Where a job stands: what the port keeps from one step to the next, but the data of a write and the bytes read back.
 ghost use Rattle.std.specs.Prelude.{◌≡◌, ◌<◌};
-ghost use Rattle.port.specs.Stand.{at_stage, with_count, advanced, at_first, at_work, awaiting, ended, no_job, broken_off};
+ghost use Rattle.answer.specs.Ending.{number_of};
+ghost use Rattle.port.specs.Stand.{at_stage, advanced, at_work, awaiting, ended, no_job, broken_off};
+ghost use Rattle.port.specs.declared.stage.Stage.TheVariants.{Working, Waiting};
 
 use crate::stage::Stage;
 use address::number::{Address, Direction};
+use answer::ending::Ending;
 use service::job::Job;
 
 // The order is for speed: the job last, and no four fields in a row that one function sets to 0, or the compiler packs several fields into one register.
-#[derive(Clone, Copy)]
+#[derive(Clone, Copy, Debug, PartialEq, Eq)]
 pub struct Stand {
     // What was last asked for.
     pub stage: Stage,
     // The status that is worked on, or was last.
     pub status: u8,
-    // Own STOP is due, and will give the answer.
+    // Own STOP is due, and will give the answer. (A flag beside it and no Option: `stand_of`, crates/dock, reads any two bytes as the two.)
     pub due: bool,
-    // The answer, once it is over or own STOP comes.
+    // The answer, once it is over or own STOP comes. (A number and no Ending: `stand_of`, crates/dock, reads any byte that the lent state holds.)
     pub answer: u8,
     // How many of the accesses in hand are made.
     pub made: u8,
@@ -31,17 +34,7 @@ impl Stand {
     pub(crate) fn at(self, stage: Stage) -> Stand
         ensures { result ≡ at_stage self stage }
     {
-        let job = self.job;
-        Stand {
-            stage,
-            job,
-            status: self.status,
-            made: self.made,
-            due: self.due,
-            answer: self.answer,
-            count: self.count,
-            stale: self.stale,
-        }
+        Stand { stage, ..self }
     }
 
     // One access more is made.
@@ -49,120 +42,73 @@ impl Stand {
         requires { self.made < 255 }
         ensures { result ≡ advanced self }
     {
-        let stage = self.stage;
-        let job = self.job;
         Stand {
-            stage,
-            job,
-            status: self.status,
             made: self.made + 1,
-            due: self.due,
-            answer: self.answer,
-            count: self.count,
-            stale: self.stale,
+            ..self
         }
     }
 
-    // With this count noted.
-    pub(crate) fn with_count(self, count: u8) -> Stand
-        ensures { result ≡ with_count self count }
+    // On to the first access of the work at a status, with this count noted; what was due is not any more.
+    pub(crate) fn at_work(self, status: u8, count: u8) -> Stand
+        ensures { result ≡ at_work self Working status count }
     {
-        let stage = self.stage;
-        let job = self.job;
         Stand {
-            stage,
-            job,
-            status: self.status,
-            made: self.made,
-            due: self.due,
-            answer: self.answer,
-            count,
-            stale: self.stale,
-        }
-    }
-
-    // On to the first of some accesses.
-    pub(crate) fn at_first(self, stage: Stage) -> Stand
-        ensures { result ≡ at_first self stage }
-    {
-        let job = self.job;
-        Stand {
-            stage,
-            job,
-            status: self.status,
-            made: 0,
-            due: self.due,
-            answer: self.answer,
-            count: self.count,
-            stale: self.stale,
-        }
-    }
-
-    // On to the first access of the work at a status, with this count noted.
-    pub(crate) fn at_work(self, stage: Stage, status: u8, count: u8) -> Stand
-        ensures { result ≡ at_work self stage status count }
-    {
-        let job = self.job;
-        Stand {
-            stage,
-            job,
+            stage: Stage::Working,
             status,
             made: 0,
             due: false,
-            answer: self.answer,
             count,
-            stale: self.stale,
+            ..self
         }
     }
 
     // Own STOP is due, and will give this answer.
-    pub(crate) fn await_stop(self, stage: Stage, answer: u8) -> Stand
-        ensures { result ≡ awaiting self stage answer }
+    pub(crate) fn await_stop(self, ending: Ending) -> Stand
+        ensures { result ≡ awaiting self Waiting (number_of ending) }
     {
-        let job = self.job;
         Stand {
-            stage,
-            job,
-            status: self.status,
-            made: self.made,
+            stage: Stage::Waiting,
             due: true,
-            answer,
-            count: self.count,
-            stale: self.stale,
+            answer: ending.number(),
+            ..self
         }
     }
 
-    // It is over, with this answer and count.
-    pub(crate) fn end(self, answer: u8, count: u8) -> Stand
-        ensures { result ≡ ended self answer count }
+    // It is over, with this answer and count 0.
+    pub(crate) fn end(self, ending: Ending) -> Stand
+        ensures { result ≡ ended self (number_of ending) 0 }
     {
-        let stage = Stage::Over;
-        let job = self.job;
         Stand {
-            stage,
-            job,
-            status: self.status,
-            made: self.made,
+            stage: Stage::Over,
             due: false,
-            answer,
-            count,
-            stale: self.stale,
+            answer: ending.number(),
+            count: 0,
+            ..self
+        }
+    }
+
+    // It is over, with the answer and the count noted.
+    pub(crate) fn finish(self) -> Stand
+        ensures { result ≡ ended self self.answer self.count }
+    {
+        Stand {
+            stage: Stage::Over,
+            due: false,
+            ..self
         }
     }
 
     // Nothing is under way: an answer, and whether the chip has to be brought back.
-    pub fn break_off(answer: u8, stale: bool) -> Stand
-        ensures { result ≡ broken_off answer stale }
+    pub fn break_off(ending: Ending, stale: bool) -> Stand
+        ensures { result ≡ broken_off (number_of ending) stale }
     {
-        let stage = Stage::Over;
-        let job = no_job(0);
         Stand {
-            stage,
-            job,
+            stage: Stage::Over,
+            job: no_job(0),
             status: 0,
             made: 0,
             due: false,
-            answer,
+            answer: ending.number(),
             count: 0,
             stale,
         }
@@ -173,11 +119,9 @@ impl Stand {
 pub fn no_job(n: u8) -> Job
     ensures { result ≡ no_job n }
 {
-    let direction = Direction::Write;
-    let address = Address(0);
     Job {
-        direction,
-        address,
+        direction: Direction::Write,
+        address: Address(0),
         n,
     }
 }

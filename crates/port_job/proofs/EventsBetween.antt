@@ -131,7 +131,8 @@ module _ (c : Controller) where
   slave_in_keeps byte called.General = data_in_keeps byte _ _
 
   pub event-keeps : (number argument : ℕ) → Keeps (event_of c number argument)
-  unfolding event_of event_sound own_start other_start other_stop own_stop address_byte address_lost data_lost illegal_edge data_held clock_held idle byte_out data_out byte_in
+  unfolding event_of event_sound own_start other_start other_stop own_stop address_byte address_lost data_lost illegal_edge data_held clock_held
+      idle byte_out data_out byte_in
   event-keeps number argument =
       search (
         chosen,

@@ -77,8 +77,8 @@ module _ {job : Job} {payload carried : List ℕ} {sent : ℕ} {p : Progress} (g
 
   module _ (number argument : ℕ) where
     event-met : Met (event_of p.controller number argument)
-    unfolding event_of event_sound own_start other_start other_stop own_stop address_byte addressed address_lost outbid data_lost illegal_edge data_held clock_held
-        idle byte_out data_out byte_in data_in received refuses accepts waits_for interrupts_at changes_status reset_with status_of
+    unfolding event_of event_sound own_start other_start other_stop own_stop address_byte addressed address_lost outbid data_lost illegal_edge
+        data_held clock_held idle byte_out data_out byte_in data_in received refuses accepts waits_for interrupts_at changes_status reset_with status_of
     event-met =
         let now = status-idle p.controller.turn (apart _ job_turns (host ∷ []) tt g.turn) in
         rw (no_match g argument) (search (chosen, quiet, address_out, no_ack, in_any, in_send, in_receive, not-here, now, tt) depth 40 fits 30000)

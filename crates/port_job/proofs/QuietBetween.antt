@@ -1,4 +1,5 @@
 -- AA is 0 between jobs: no event sets it, and nothing that a job writes to I2CCON has it. Assumes nothing.
+use Rattle.std.specs.Prelude.{Option, Some, None}
 use mathlib.Core.Bool.{Bool, true, false, not}
 use mathlib.Core.List.{List, [], ◌∷◌, ◌++◌, map}
 use mathlib.Core.Path.{◌≡◌, refl, sym, ap, subst, ◌∙◌}
@@ -8,8 +9,6 @@ use lib.ListN.{take}
 use Rattle.control.specs.Flags.{flags_of}
 use Rattle.control.specs.declared.flags.Control.{Control}
 use Rattle.control.specs.declared.turn.Turn.{Turn}
-use Rattle.control.specs.declared.writing.Response.TheVariants.{Next, Unlisted}
-use Rattle.control.specs.declared.writing.Response.{Response}
 use Rattle.controller.specs.Access.{write_sound, write_of}
 use Rattle.controller.specs.Event.{event_of}
 use Rattle.controller.specs.I2ccon.{keeps, controlled, enabled, write_flags, write_control}
@@ -71,10 +70,10 @@ module _ (c : Controller) (z : aa_of c ≡ false) where
   unfolding controlled wrote accepts keeps
   stored k t e = record { aa = e }
 
-  enabling : (k : Control) (r : Response) → k.aa ≡ false → Quiet (enabled c k r)
+  enabling : (k : Control) (r : Option Turn) → k.aa ≡ false → Quiet (enabled c k r)
   unfolding enabled
-  enabling k Unlisted e = refused 5
-  enabling k (Next t) e = chosen _ _ _ (λ _. refused 6) (λ _. stored k t e)
+  enabling k None e = refused 5
+  enabling k (Some t) e = chosen _ _ _ (λ _. refused 6) (λ _. stored k t e)
 
   last-flags : (register value : ℕ) → T (silent register value) → eqb register 0 ≡ false → eqb register 1 ≡ false → eqb register 2 ≡ false →
       (flags_of value).aa ≡ false

@@ -1,2 +1,3 @@
 -- Laws of what requests run on.
+pub mod Asked
 pub mod FreshEnabled

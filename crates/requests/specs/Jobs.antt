@@ -16,6 +16,11 @@ fresh_enabled = (write_of fresh 3 0x40).next
 unfoldable pub direction_for : ℕ → Direction
 direction_for kind = when eqb kind 0 then Write else Read
 
+-- "data for a write": so many bytes go with a job
+unfoldable pub data_length : Direction → ℕ → ℕ
+data_length Write n = n
+data_length Read n = 0
+
 -- "kind .., address, n"
 abbrev pub job_for : ℕ → ℕ → ℕ → Job
 job_for kind address n = record { direction = direction_for kind; address = record { 0 = address }; n = n }

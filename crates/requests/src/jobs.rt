@@ -1,12 +1,11 @@
 // A job given in numbers, and the controller that it runs on.
 ghost use Rattle.std.specs.Prelude.{◌≡◌};
-ghost use Rattle.requests.specs.Jobs.{fresh_enabled, direction_for, job_for};
+ghost use Rattle.requests.specs.Jobs.{fresh_enabled, data_length, direction_for, job_for};
 
 use address::number::{Address, Direction};
 use control::flags::Control;
-use control::reason::Reason;
 use control::turn::Turn;
-use controller::record::{Controller, Registers};
+use controller::record::Controller;
 use service::job::Job;
 
 // A fresh controller, enabled by 40h: written out, so that no write is run.
@@ -14,19 +13,6 @@ pub fn fresh_enabled() -> Controller
     ensures { result ≡ fresh_enabled }
 {
     Controller {
-        buffer: [0; 68],
-        hand: 0,
-        moved: 0,
-        pointer: 0,
-        armed: false,
-        registers: Registers {
-            count: 0x01,
-            own: 0xE0,
-            low: 0x9D,
-            high: 0x86,
-            timeout: 0xFF,
-            speed: 0x00,
-        },
         control: Control {
             aa: false,
             ensio: true,
@@ -35,19 +21,18 @@ pub fn fresh_enabled() -> Controller
             mode: false,
         },
         turn: Turn::Free,
-        reason: Reason::NoneYet,
+        ..Controller::fresh()
     }
 }
 
-// Kind 0 is a write.
+// Kind 0 is a write, any other a read. (A number, since it is a byte that was lent: `direction_for` and `job_for` of specs/ are of any.)
+#[tactic(auto, unfolding(crate::specs::Jobs::direction_for), using(notation::proofs::Cases::cases))]
 fn direction_for(kind: u8) -> Direction
     ensures { result ≡ direction_for kind }
 {
-    let writes = kind == 0;
-    if writes {
-        Direction::Write
-    } else {
-        Direction::Read
+    match kind {
+        0 => Direction::Write,
+        _ => Direction::Read,
     }
 }
 
@@ -55,11 +40,20 @@ fn direction_for(kind: u8) -> Direction
 pub fn job_for(kind: u8, address: u8, n: u8) -> Job
     ensures { result ≡ job_for kind address n }
 {
-    let direction = direction_for(kind);
-    let address = Address(address);
     Job {
-        direction,
-        address,
+        direction: direction_for(kind),
+        address: Address(address),
         n,
+    }
+}
+
+// How many bytes of data go with a job: none with a read.
+#[tactic(auto, unfolding(crate::specs::Jobs::data_length))]
+pub fn data_len(job: Job) -> usize
+    ensures { result ≡ data_length job.direction job.n }
+{
+    match job.direction {
+        Direction::Write => job.n as usize,
+        Direction::Read => 0,
     }
 }

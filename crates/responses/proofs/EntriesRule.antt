@@ -1,4 +1,5 @@
 -- What the entry for a status and four bits says is what the controller's own write does. Assumes nothing.
+use Rattle.std.specs.Prelude.{Option, Some, None}
 use mathlib.Core.Bool.{Bool, true, false, true≢false, false≢true}
 use mathlib.Core.List.{List, [], ◌∷◌}
 use mathlib.Core.Logic.{inl, inr}
@@ -20,8 +21,6 @@ use Rattle.control.specs.declared.turn.Edge.{Edge}
 use Rattle.control.specs.declared.turn.Turn.TheVariants.{Off, Host, Free, Busy, Listen}
 use Rattle.control.specs.declared.turn.Turn.TheVariants.{Address, Send, Receive, SlaveReceive, SlaveSend, Stopping, Restarting}
 use Rattle.control.specs.declared.turn.Turn.{Turn}
-use Rattle.control.specs.declared.writing.Response.TheVariants.{Next, Unlisted}
-use Rattle.control.specs.declared.writing.Response.{Response}
 use Rattle.controller.proofs.SoundParts.{parts}
 use Rattle.controller.specs.Access.{write_of, write_sound, bars_write, indirect_at}
 use Rattle.controller.specs.I2ccon.{bad_count, controlled, enabled, write_control, write_flags}
@@ -44,26 +43,26 @@ unfolding write_of write_sound bars_write indirect_at write_control ◌and◌ �
 writes-flags c value e = rw e
 
 -- BC is looked at where data is moved
-unmoved : (c : Controller) (k : Control) (t : Turn) → waits t data_turns ≡ false → enabled c k (Next t) ≡ controlled c k t
+unmoved : (c : Controller) (k : Control) (t : Turn) → waits t data_turns ≡ false → enabled c k (Some t) ≡ controlled c k t
 unfolding enabled bad_count
 unmoved c k t e = when-false _ _ _ (and_no_right k.mode _ (and_no_left _ _ e))
 
 -- the rules answer x where the bus condition is `Stop` and y where it is the record's; the entry for x does what the rules make of y
-record Meets (c : Controller) (k : Control) (x y : Response) : Type 0 where
+record Meets (c : Controller) (k : Control) (x y : Option Turn) : Type 0 where
   same : by_entry c k (as_entry x) ≡ enabled c k y
 
 module _ {c : Controller} {k : Control} where
-  choose : (b : Bool) {x y x' y' : Response} → (b ≡ true → Meets c k x x') → (b ≡ false → Meets c k y y') →
+  choose : (b : Bool) {x y x' y' : Option Turn} → (b ≡ true → Meets c k x x') → (b ≡ false → Meets c k y y') →
       Meets c k (when b then x else y) (when b then x' else y')
   unfolding when◌then◌else◌
   choose true f g = f refl
   choose false f g = g refl
 
-  unlisted : Meets c k Unlisted Unlisted
+  unlisted : Meets c k None None
   unfolding by_entry as_entry enabled
   unlisted = record { same = refl }
 
-  leads : (t : Turn) → has (host ∷ []) (tag_of the_type t) ≡ false → Meets c k (Next t) (Next t)
+  leads : (t : Turn) → has (host ∷ []) (tag_of the_type t) ≡ false → Meets c k (Some t) (Some t)
   unfolding by_entry as_entry
   leads t e = record { same = ap (by_entry c k) (when-false _ _ _ (at_turn _ t refl false (host ∷ []) e)) }
 
@@ -77,13 +76,13 @@ module _ (c : Controller) (k : Control) (s : ℕ) (e : Edge) where
   abbrev waiting : Controller
   waiting = with_turn c (Host s e)
 
-  stays : among s (0x38 ∷ []) ≡ true → Meets waiting k (Next (Host 0x38 Stop)) (Next (Host 0x38 e))
+  stays : among s (0x38 ∷ []) ≡ true → Meets waiting k (Some (Host 0x38 Stop)) (Some (Host 0x38 e))
   unfolding by_entry as_entry kind among when◌then◌else◌
   stays h = record {
     same = ap (λ (n : ℕ). controlled waiting k (Host n e)) (one_of (0x38 ∷ []) s h) ∙ sym (unmoved waiting k (Host 0x38 e) refl);
   }
 
-  ended : {x y : Response} → among s (0xA0 ∷ 0xF8 ∷ []) ≡ false → among s (0xA0 ∷ []) ≡ true → Meets waiting k x y
+  ended : {x y : Option Turn} → among s (0xA0 ∷ 0xF8 ∷ []) ≡ false → among s (0xA0 ∷ []) ≡ true → Meets waiting k x y
   ended n h = absurd (true≢false (sym h ∙ without s (0xA0 ∷ []) (0xA0 ∷ 0xF8 ∷ []) tt n))
 
   alike : among s (0xA0 ∷ 0xF8 ∷ []) ≡ false → Meets waiting k (responds_at s Stop k) (responds_at s e k)

@@ -1,12 +1,11 @@
 -- Document 02, request 4, "a plain engine for I2CCON writes": what an entry makes of a write, and the rules beside the table.
-use Rattle.std.specs.Prelude.{true, [], ◌∷◌, ◌≡◌, ℕ}
+use Rattle.std.specs.Prelude.{true, [], ◌∷◌, ◌≡◌, ℕ, Some}
 use Rattle.answer.specs.Refusal.{refusal_number}
 use Rattle.control.specs.Flags.{flags_of}
 use Rattle.control.specs.Turn.{off, host, wire_turns, faults, waits, status_of, edge_of}
 use Rattle.control.specs.Writing.{after_edge}
 use Rattle.control.specs.declared.flags.Control.{Control}
 use Rattle.control.specs.declared.turn.Turn.TheVariants.{Off, Free}
-use Rattle.control.specs.declared.writing.Response.TheVariants as response
 use Rattle.controller.specs.Access.{write_of}
 use Rattle.controller.specs.I2ccon.{controlled, enabled, without_start}
 use Rattle.controller.specs.Record.{sound}
@@ -33,7 +32,7 @@ by_entry c k Never = refuses c 10
 by_entry c k Beside = beside_table c k
 by_entry c k Stays = controlled c k c.turn
 by_entry c k (Refused why) = refuses c (refusal_number why)
-by_entry c k (Next turn) = enabled c k (response.Next turn)
+by_entry c k (Next turn) = enabled c k (Some turn)
 
 -- ENSIO 0, for which there is no table: refusal 3, "wire turn: any write ..", refusal 4, "I2CCON write at 00h, 70h or 78h", or "ENSIO 0 leads to Off with
 -- STA 0"

@@ -1,14 +1,13 @@
 -- Document 02, request 4: "one table of 512 entries, by status divided by 8 and the four bits STA, STO, AA and MODE, highest first". What the
 -- entry for a status and the four bits has to be, by the rules that the controller itself goes by.
-use Rattle.std.specs.Prelude.{true, List, [], ◌∷◌, ◌≡◌, ℕ, ◌+◌, ◌*◌, ◌/◌, ◌%◌, ◌<◌, eqb, get_or}
+use Rattle.control.specs.declared.turn.Turn.{Turn}
+use Rattle.std.specs.Prelude.{true, List, [], ◌∷◌, ◌≡◌, ℕ, ◌+◌, ◌*◌, ◌/◌, ◌%◌, ◌<◌, eqb, get_or, Option, Some, None}
 use Rattle.answer.specs.declared.Refusal.TheVariants as refusal
 use Rattle.control.specs.Flags.{weighs}
 use Rattle.control.specs.Turn.{faults, host, waits}
 use Rattle.control.specs.Writing.{responds_at}
 use Rattle.control.specs.declared.flags.Control.{Control}
 use Rattle.control.specs.declared.turn.Edge.TheVariants.{Stop}
-use Rattle.control.specs.declared.writing.Response.TheVariants as response
-use Rattle.control.specs.declared.writing.Response.{Response}
 use Rattle.controller.specs.Record.{given_statuses}
 use Rattle.notation.specs.Choice.{when◌then◌else◌, among}
 use Rattle.responses.specs.Entry.{names}
@@ -30,9 +29,9 @@ pattern_of column = record {
 }
 
 -- what the rules answer, as an entry: a turn that is Host is the one that the controller is in, at 38h
-unfoldable pub as_entry : Response → Entry
-as_entry response.Unlisted = Refused refusal.Unlisted
-as_entry (response.Next turn) = when waits turn (host ∷ []) then Stays else Next turn
+unfoldable pub as_entry : Option Turn → Entry
+as_entry None = Refused refusal.Unlisted
+as_entry (Some turn) = when waits turn (host ∷ []) then Stays else Next turn
 
 -- the entry for a status and flags, ENSIO not looked at. A0h and F8h: "are beside the table, and their 32 entries say only that". 00h, 70h, 78h: refusal
 -- 4. A status that some event gives: what the controller's own rule answers; any bus condition will do, since it matters at A0h alone. Else: "codes that

@@ -5,7 +5,7 @@ ghost use Rattle.responses.specs.Entry.{names};
 use answer::Refusal;
 use control::turn::{Called, Turn};
 
-#[derive(Clone, Copy)]
+#[derive(Clone, Copy, Debug, PartialEq, Eq)]
 pub enum Entry {
     // No event gives the status.
     Never,
@@ -18,11 +18,11 @@ pub enum Entry {
     Next(Turn),
 }
 
-impl Entry {
-    // What a number in the table names.
-    pub(crate) fn of_number(number: u8) -> Entry
-        ensures { result ≡ names number }
-    {
+// What a number in the table names.
+impl From<u8> for Entry {
+    ghost from_gives = { λ number entry. entry ≡ names number };
+
+    fn from(number: u8) -> Entry {
         match number {
             1 => Entry::Beside,
             2 => Entry::Stays,

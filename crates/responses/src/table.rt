@@ -1,13 +1,12 @@
 // The response table, and the entry for a status and the four bits.
-ghost use Rattle.std.specs.Prelude.{◌≡◌, ◌<◌, ◌≤◌, ◌*◌, ◌/◌};
-ghost use Rattle.control.specs.Flags.{weighs};
+ghost use Rattle.std.specs.Prelude.{◌≡◌, ◌<◌, ◌*◌, ◌/◌};
 ghost use Rattle.responses.specs.Table.{entry_at, column_of, pattern_of, Agrees};
 
 use crate::entry::Entry;
 use control::flags::Control;
 
 // A row for each status, from 00h to F8h; in a row the sixteen patterns of STA, STO, AA and MODE, from 0000 to 1111. What a number names is
-// `Entry::of_number`.
+// `Entry::from`.
 const TABLE: [[u8; 16]; 32] = [
     [4, 4, 4, 4, 4, 4, 4, 4, 4, 4, 4, 4, 4, 4, 4, 4], // 00h
     [11, 5, 11, 5, 11, 5, 11, 5, 11, 5, 11, 5, 11, 5, 11, 5], // 08h
@@ -50,22 +49,12 @@ fn table() -> [[u8; 16]; 32]
     TABLE
 }
 
-// A bit's weight in the column, where it is set.
-fn weigh(bit: bool, weight: usize) -> usize
-    ensures { (result ≡ weighs bit weight) × (result ≤ weight) }
-{
-    if bit { weight } else { 0 }
-}
-
 // The column of these flags; ENSIO has no part in it.
 fn column(k: Control) -> usize
-    ensures { (result ≡ column_of k) × (result < 16) }
+    ensures column { result ≡ column_of k }
+    ensures below { result < 16 }
 {
-    let sta = weigh(k.sta, 8);
-    let sto = weigh(k.sto, 4);
-    let aa = weigh(k.aa, 2);
-    let mode = weigh(k.mode, 1);
-    sta + sto + aa + mode
+    8 * usize::from(k.sta) + 4 * usize::from(k.sto) + 2 * usize::from(k.aa) + usize::from(k.mode)
 }
 
 // The flags of a column, with ENSIO 1. (A number over 15 stands for its low four bits.)
@@ -87,5 +76,5 @@ pub fn entry_at(status: u8, k: Control) -> Entry
 {
     let rows = table();
     let row = (status / 8) as usize;
-    Entry::of_number(rows[row][column(k)])
+    Entry::from(rows[row][column(k)])
 }

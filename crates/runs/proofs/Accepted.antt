@@ -8,6 +8,7 @@ use native.Mathlib.Omega.{arith}
 use borrow.Author.Tests.{eqb-true, ne_eqb}
 use lib.Dec.{eqb}
 use lib.ListN.{length, take, length-take}
+use Rattle.std.specs.Prelude.{Some}
 use Rattle.block.specs.Block.{written}
 use Rattle.control.proofs.Turning.{hosted-turn}
 use Rattle.control.specs.Flags.{flags_of}
@@ -16,7 +17,6 @@ use Rattle.control.specs.Writing.{end_or, responds_at, response}
 use Rattle.control.specs.declared.turn.Edge.{Edge}
 use Rattle.control.specs.declared.turn.Turn.TheVariants as turn
 use Rattle.control.specs.declared.turn.Turn.{Turn}
-use Rattle.control.specs.declared.writing.Response.TheVariants.{Next}
 use Rattle.controller.specs.Access.{read_of, write_of}
 use Rattle.controller.specs.Event.{event_of}
 use Rattle.controller.specs.I2ccon.{bad_count}
@@ -55,7 +55,7 @@ use Rattle.service.specs.declared.progress.Progress.{Progress}
 
 -- an I2CCON write at a status
 control-here : (d : Controller) (status : ℕ) (edge : Edge) (value : ℕ) (t : Turn) → sound d ≡ true → d.turn ≡ turn.Host status edge →
-    among status faults ≡ false → (flags_of value).ensio ≡ true → responds_at status edge (flags_of value) ≡ Next t →
+    among status faults ≡ false → (flags_of value).ensio ≡ true → responds_at status edge (flags_of value) ≡ Some t →
     bad_count d (flags_of value) t ≡ false → (write_of d 3 value).refused ≡ 0
 unfolding response kind status_of edge_of among when◌then◌else◌
 control-here d status edge value t s h l e r b = not-refused _ _ _ (control-accepted d value (turn.Host status edge) t s h refl l e r b)
@@ -124,7 +124,7 @@ module _ {room places : ℕ} {job : Job} (payload : List ℕ) (form : Formed job
     count = ap (λ (r : Registers). r.count) given.registers ∙ g.whole.count
 
     -- 50h, of a record in the same turn
-    stops : (k : ℕ) → status ≡ k → among k faults ≡ false → responds_at k (edge_of next.turn) (flags_of 0x50) ≡ Next turn.Stopping →
+    stops : (k : ℕ) → status ≡ k → among k faults ≡ false → responds_at k (edge_of next.turn) (flags_of 0x50) ≡ Some turn.Stopping →
         (d : Controller) → sound d ≡ true → d.turn ≡ next.turn → (write_of d 3 0x50).refused ≡ 0
     unfolding flags_of bad_count ◌and◌
     stops k e l r d s t = control-here d k _ 0x50 turn.Stopping s (t ∙ at k e) l refl r refl

@@ -4,6 +4,7 @@ use mathlib.Core.List.{List, [], ◌∷◌}
 use mathlib.Core.Path.{◌≡◌, refl, sym, ap, subst, ◌∙◌}
 use Prim.Native.Nat.{ℕ}
 use lib.ListN.{length, replicate, length-replicate}
+use Rattle.std.specs.Prelude.{Some}
 use Rattle.answer.specs.declared.ending.Ending.TheVariants.{Unfinished}
 use Rattle.control.proofs.Turning.{status-idle}
 use Rattle.control.specs.Flags.{flags_of}
@@ -11,7 +12,6 @@ use Rattle.control.specs.Turn.{faults, off, host, free, wire_turns, kind}
 use Rattle.control.specs.Writing.{response}
 use Rattle.control.specs.declared.flags.Control.{Control}
 use Rattle.control.specs.declared.turn.Turn.{Turn}
-use Rattle.control.specs.declared.writing.Response.TheVariants.{Next}
 use Rattle.controller.specs.Access.{write_of}
 use Rattle.controller.specs.I2ccon.{keeps, bad_count}
 use Rattle.controller.specs.Record.{sound}
@@ -34,7 +34,7 @@ use Rattle.service.specs.Serve.{starts}
 use Rattle.service.specs.declared.job.Job.{Job}
 
 -- "F8h: the turn stays"
-turn-stays : (t : Turn) (k : Control) → among (kind t) waiting_turns ≡ true → response t k ≡ Next t
+turn-stays : (t : Turn) (k : Control) → among (kind t) waiting_turns ≡ true → response t k ≡ Some t
 unfolding response
 turn-stays t k w = when-false _ _ _ (apart _ waiting_turns (off ∷ []) tt w) ∙ when-false _ _ _ (apart _ waiting_turns (host ∷ []) tt w)
 

@@ -7,6 +7,7 @@ use Prim.Native.Nat.{ℕ, suc}
 use borrow.Author.Tests.{eqb-true}
 use lib.Dec.{T, eqb}
 use lib.ListN.{length, take}
+use Rattle.std.specs.Prelude.{Option, Some}
 use Rattle.answer.specs.declared.ending.Ending.TheVariants.{Done, AddressNacked, DataNacked, Lost, Fault}
 use Rattle.answer.specs.declared.ending.Ending.{Ending}
 use Rattle.control.proofs.Turning.{hosted-turn}
@@ -16,8 +17,6 @@ use Rattle.control.specs.Writing.{end_or, responds_at, response}
 use Rattle.control.specs.declared.flags.Control.{Control}
 use Rattle.control.specs.declared.turn.Turn.TheVariants as turn
 use Rattle.control.specs.declared.turn.Turn.{Turn}
-use Rattle.control.specs.declared.writing.Response.TheVariants.{Next}
-use Rattle.control.specs.declared.writing.Response.{Response}
 use Rattle.controller.specs.Access.{indirect_at, bars_write, write_sound, write_of}
 use Rattle.controller.specs.Event.{event_of}
 use Rattle.controller.specs.I2ccon.{keeps, controlled, bad_count, enabled, write_flags, write_control}
@@ -84,7 +83,7 @@ held-begun job c s w z =
     held_by _ c.turn (keeps c.control (flags_of 0x60) c.turn) (ap parts_of (begins_to job c s w)) refl (sym w) (when-false _ _ _ off ∙ z ∙ sym off)
 
 -- I2CCON written with ENSIO 1: where it is accepted it leads where the rules list it, and the flags are stored
-control_led : (c : Controller) (value : ℕ) (t : Turn) → (flags_of value).ensio ≡ true → response c.turn (flags_of value) ≡ Next t →
+control_led : (c : Controller) (value : ℕ) (t : Turn) → (flags_of value).ensio ≡ true → response c.turn (flags_of value) ≡ Some t →
     (write_of c 3 value).refused ≡ 0 → parts_of (put c 3 value) ≡ (t, keeps c.control (flags_of value) t)
 unfolding put write_of write_sound indirect_at bars_write write_control write_flags enabled controlled wrote refuses accepts when◌then◌else◌ ◌and◌ ◌or◌
 control_led c value t e r =
@@ -95,7 +94,7 @@ control_led c value t e r =
     (λ _. split P (among (kind c.turn) wire_turns) _ _ (λ _. not-refused 2)
     (λ _. split P (among (status_of c.turn) faults) _ _ (λ _. not-refused 3)
     (λ _. split P k.ensio _ _
-    (λ _. subst (λ (x : Response). P (enabled c k x)) (sym r) (split P (bad_count c k t) _ _ (λ _. not-refused 5) (λ _ _. refl)))
+    (λ _. subst (λ (x : Option Turn). P (enabled c k x)) (sym r) (split P (bad_count c k t) _ _ (λ _. not-refused 5) (λ _ _. refl)))
     (λ n. absurd (true≢false (sym e ∙ n))))))
     (λ _. not-refused 9)
 
@@ -111,7 +110,7 @@ write_keeps c register value t =
 
 -- acts that write these two, and then I2CCON
 last_led : (acts : List Act) (value : ℕ) (p : Progress) (t : Turn) → AllWrite (0 ∷ 1 ∷ []) acts → AllAccepted (acts ++ (writes 3 value ∷ [])) p →
-    (flags_of value).ensio ≡ true → response p.controller.turn (flags_of value) ≡ Next t →
+    (flags_of value).ensio ≡ true → response p.controller.turn (flags_of value) ≡ Some t →
     parts_of (does_all (acts ++ (writes 3 value ∷ [])) p).controller ≡ (t, keeps p.controller.control (flags_of value) t)
 unfolding does_all does
 last_led [] value p t w a e r = control_led p.controller value t e r a.0
@@ -174,7 +173,7 @@ module _ {room places : ℕ} {job : Job} (payload : List ℕ) (form : Formed job
 
     -- some acts, then an I2CCON write that leads to this turn
     leads : (acts : List Act) (value : ℕ) (after : Then) (t : Turn) (k : ℕ) → status ≡ k → AllWrite (0 ∷ 1 ∷ []) acts → (flags_of value).ensio ≡ true →
-        responds_at k (edge_of next.turn) (flags_of value) ≡ Next t → (flags_of value).sta ≡ among (kind t) waiting_turns →
+        responds_at k (edge_of next.turn) (flags_of value) ≡ Some t → (flags_of value).sta ≡ among (kind t) waiting_turns →
         (keeps next.control (flags_of value) t).sto ≡ among (kind t) (stopping ∷ []) → among (kind t) (stopping ∷ []) ≡ awaits_stop after →
         Holds (record { acts = acts ++ (writes 3 value ∷ []); after = after })
     unfolding performs taking response keeps kind status_of edge_of among when◌then◌else◌
@@ -186,7 +185,7 @@ module _ {room places : ℕ} {job : Job} (payload : List ℕ) (form : Formed job
         (held_by _ t _ parts n sta sto, ap (λ (u : Parts). among (kind u.0) (stopping ∷ [])) parts ∙ b)
 
     stops : (acts : List Act) (e : Ending) (k : ℕ) → status ≡ k → AllWrite (0 ∷ 1 ∷ []) acts →
-        responds_at k (edge_of next.turn) (flags_of 0x50) ≡ Next turn.Stopping → Holds (stop_after acts e)
+        responds_at k (edge_of next.turn) (flags_of 0x50) ≡ Some turn.Stopping → Holds (stop_after acts e)
     unfolding kind keeps flags_of among when◌then◌else◌
     stops acts ending k e w r = leads acts 0x50 (awaits ending) turn.Stopping k e w refl r refl refl refl
 

@@ -5,11 +5,10 @@ use mathlib.Core.Path.{◌≡◌, refl, sym, ap, subst, ◌∙◌}
 use Prim.Native.Nat.{ℕ}
 use lib.Dec.{T, eqb}
 use lib.ListN.{length, take}
+use Rattle.std.specs.Prelude.{Option, Some, None}
 use Rattle.answer.specs.declared.ending.Ending.TheVariants.{DataNacked}
 use Rattle.control.specs.declared.flags.Control.{Control}
 use Rattle.control.specs.declared.turn.Turn.{Turn}
-use Rattle.control.specs.declared.writing.Response.TheVariants.{Next, Unlisted}
-use Rattle.control.specs.declared.writing.Response.{Response}
 use Rattle.controller.specs.Access.{write_sound, write_of}
 use Rattle.controller.specs.Event.{event_of}
 use Rattle.controller.specs.I2ccon.{controlled, enabled, write_flags, write_control}
@@ -49,10 +48,10 @@ control-written : (c : Controller) (k : Control) (t : Turn) → Left c (controll
 unfolding controlled wrote
 control-written c k t = accepted pointer_of c _ _ refl
 
-enabling : (c : Controller) (k : Control) (r : Response) → Left c (enabled c k r)
+enabling : (c : Controller) (k : Control) (r : Option Turn) → Left c (enabled c k r)
 unfolding enabled
-enabling c k Unlisted = refused pointer_of c 5
-enabling c k (Next t) = chosen pointer_of c _ _ _ (λ _. refused pointer_of c 6) (λ _. control-written c k t)
+enabling c k None = refused pointer_of c 5
+enabling c k (Some t) = chosen pointer_of c _ _ _ (λ _. refused pointer_of c 6) (λ _. control-written c k t)
 
 -- a write of I2CDAT or I2CCON
 write_keeps : (c : Controller) (register value : ℕ) → T (has (1 ∷ 3 ∷ []) register) → Left c (write_of c register value)

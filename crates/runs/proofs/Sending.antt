@@ -6,6 +6,7 @@ use Prim.Native.Nat.{ℕ, suc, ◌+◌, ◌%◌, ◌≤◌}
 use native.Mathlib.Omega.{arith}
 use lib.Dec.{eqb}
 use lib.ListN.{length, take}
+use Rattle.std.specs.Prelude.{Some}
 use Rattle.address.specs.Number.{direction_of}
 use Rattle.address.specs.declared.number.Direction.TheVariants.{Write, Read}
 use Rattle.address.specs.declared.number.Direction.{Direction}
@@ -17,7 +18,6 @@ use Rattle.control.specs.Turn.{faults, host, address, send, data_turns}
 use Rattle.control.specs.Writing.{end_or, responds_at}
 use Rattle.control.specs.declared.turn.Edge.TheVariants.{Stop}
 use Rattle.control.specs.declared.turn.Turn.TheVariants as turn
-use Rattle.control.specs.declared.writing.Response.TheVariants.{Next}
 use Rattle.controller.specs.Record.{byte_count, sound}
 use Rattle.controller.specs.Reply.{Outcome, accepts, gives}
 use Rattle.controller.specs.Setters.{with_pointer, with_armed}
@@ -101,7 +101,7 @@ module _ (table : Table) {room places : ℕ} {job : Job} (payload : List ℕ) (f
 
   -- 20h, 48h: the address was not acknowledged
   nacked : (argument status value : ℕ) → Line table status nacked_work → eqb status 0xF8 ≡ false → In p (address ∷ []) →
-      among status faults ≡ false → responds_at status Stop (flags_of 0x50) ≡ Next turn.Stopping → S 6 argument (gives p.controller status value)
+      among status faults ≡ false → responds_at status Stop (flags_of 0x50) ≡ Some turn.Stopping → S 6 argument (gives p.controller status value)
   unfolding taking
   nacked argument status value line n t l r =
       hosting table g 6 argument p.controller status value line n refl refl

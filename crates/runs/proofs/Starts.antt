@@ -7,6 +7,7 @@ use native.Mathlib.Omega.{arith}
 use borrow.Author.Tests.{ne_eqb, le-ltb}
 use lib.ListN.{length, take}
 use lib.Seq.{length-take-le}
+use Rattle.std.specs.Prelude.{Some}
 use Rattle.address.specs.declared.number.Direction.TheVariants.{Write, Read}
 use Rattle.answer.specs.Ending.{number_of}
 use Rattle.answer.specs.declared.ending.Ending.{Ending}
@@ -18,7 +19,6 @@ use Rattle.control.specs.declared.flags.Control.{Control}
 use Rattle.control.specs.declared.turn.Edge.TheVariants.{Stop}
 use Rattle.control.specs.declared.turn.Turn.TheVariants as turn
 use Rattle.control.specs.declared.turn.Turn.{Turn}
-use Rattle.control.specs.declared.writing.Response.TheVariants.{Next}
 use Rattle.controller.specs.I2ccon.{keeps, bad_count}
 use Rattle.controller.specs.Record.{byte_count, sound}
 use Rattle.controller.specs.declared.record.Controller.{Controller}
@@ -41,7 +41,7 @@ use Rattle.service.specs.declared.progress.Progress.{Progress}
 -- 50h at one of the end statuses: the driver waits for own STOP
 pub stops-good : {job : Job} {payload : List ℕ} (carried : List ℕ) (sent : ℕ) (q : Progress) (status : ℕ) (e : Ending) (count : ℕ) →
     Whole job payload q → q.controller.turn ≡ turn.Host status Stop → among status faults ≡ false →
-    responds_at status Stop (flags_of 0x50) ≡ Next turn.Stopping → sent ≤ limit job.direction job.n →
+    responds_at status Stop (flags_of 0x50) ≡ Some turn.Stopping → sent ≤ limit job.direction job.n →
     (number_of e ≡ 0 → job.direction ≡ Read → take job.n q.fetched ≡ carried) → Good job payload carried sent (stopped q e count)
 unfolding kind status_of edge_of among response flags_of keeps bad_count when◌then◌else◌ ◌and◌
 stops-good {job} {payload} carried sent q status e count w t l r m z =

@@ -5,12 +5,12 @@ use Prim.Native.Nat.{ℕ, ◌+◌, ◌%◌, ◌<◌}
 use native.Mathlib.Omega.{arith}
 use borrow.Author.Tests.{ne_eqb}
 use lib.Dec.{eqb}
+use Rattle.std.specs.Prelude.{Some}
 use Rattle.control.specs.Flags.{flags_of}
 use Rattle.control.specs.Turn.{faults, wire_turns, kind, status_of}
 use Rattle.control.specs.Writing.{response}
 use Rattle.control.specs.declared.flags.Control.{Control}
 use Rattle.control.specs.declared.turn.Turn.{Turn}
-use Rattle.control.specs.declared.writing.Response.TheVariants.{Next}
 use Rattle.controller.specs.Access.{indirect_at, bars_read, bars_write, read_sound, read_of, write_sound, write_of}
 use Rattle.controller.specs.I2ccon.{keeps, controlled, bad_count, enabled, write_flags, write_control}
 use Rattle.controller.specs.Record.{place, sound}
@@ -32,20 +32,20 @@ controlled_to c k t = with_armed (with_turn (with_control (with_moved (with_hand
 
 -- an I2CCON write with ENSIO 1 that the rules list
 listed : (c : Controller) (value : ℕ) (t : Turn) → sound c ≡ true → among (kind c.turn) wire_turns ≡ false →
-    among (status_of c.turn) faults ≡ false → (flags_of value).ensio ≡ true → response c.turn (flags_of value) ≡ Next t →
+    among (status_of c.turn) faults ≡ false → (flags_of value).ensio ≡ true → response c.turn (flags_of value) ≡ Some t →
     bad_count c (flags_of value) t ≡ false → write_of c 3 value ≡ accepts (controlled_to c (flags_of value) t) 0
 unfolding write_of write_sound indirect_at bars_write write_control write_flags enabled controlled wrote when◌then◌else◌ ◌and◌ ◌or◌
 listed c value t s w l e r b = rw (s, w, l, r, b, e)
 
 pub control-accepted : (c : Controller) (value : ℕ) (u t : Turn) → sound c ≡ true → c.turn ≡ u → among (kind u) wire_turns ≡ false →
-    among (status_of u) faults ≡ false → (flags_of value).ensio ≡ true → response u (flags_of value) ≡ Next t →
+    among (status_of u) faults ≡ false → (flags_of value).ensio ≡ true → response u (flags_of value) ≡ Some t →
     bad_count c (flags_of value) t ≡ false → write_of c 3 value ≡ accepts (controlled_to c (flags_of value) t) 0
 control-accepted c value u t s h w l e r b =
     listed c value t s (ap (λ (x : Turn). among (kind x) wire_turns) h ∙ w) (ap (λ (x : Turn). among (status_of x) faults) h ∙ l) e
     (ap (λ (x : Turn). response x (flags_of value)) h ∙ r) b
 
 pub control-written : (c : Controller) (value : ℕ) (u t : Turn) → sound c ≡ true → c.turn ≡ u → among (kind u) wire_turns ≡ false →
-    among (status_of u) faults ≡ false → (flags_of value).ensio ≡ true → response u (flags_of value) ≡ Next t →
+    among (status_of u) faults ≡ false → (flags_of value).ensio ≡ true → response u (flags_of value) ≡ Some t →
     bad_count c (flags_of value) t ≡ false → put c 3 value ≡ controlled_to c (flags_of value) t
 unfolding put accepts
 control-written c value u t s h w l e r b = ap (λ (o : Outcome). o.next) (control-accepted c value u t s h w l e r b)

@@ -1,109 +1,76 @@
-// Acts of a driver, and what follows on them: it goes on, waits for own STOP, or is over.
-ghost use Rattle.std.specs.Prelude.{true, [], ◌≡◌};
-ghost use Rattle.controller.specs.Record.{sound};
-ghost use Rattle.service.specs.Act.{counts, reads_all, reads_count, ends, does, does_all, follows, performs, read_times};
+// Acts of a driver, and what follows on them: it goes on, waits for own STOP, or is over. Each changes the progress in place.
+ghost use Rattle.std.specs.Prelude.{[], ◌++◌, ◌≡◌, ◌≤◌, length, drop};
+ghost use Rattle.block.specs.Block.{after_reads, values_read};
+ghost use Rattle.service.specs.Act.{writes, reads_all, reads_count, ends, does, does_all, follows, performs};
 ghost use Rattle.service.specs.JobSteps.{finds_moved, stop_after};
-ghost use Rattle.service.specs.Progress.{with_record};
 
-use crate::accesses::{put_control, put_pointer};
 use crate::progress::Progress;
 use answer::ending::Ending;
+use answer::value_of;
 use block::read_block;
 use controller::record::Controller;
 
-impl Progress {
-    // Accesses led to this record.
-    pub(crate) fn with_record(mut self, c: Controller) -> Progress
-        ensures { result ≡ with_record self c }
-    {
-        self.controller = c;
-        self
-    }
+// I2CDAT is read n times, and what it gave put into the first n places. (A function of its own, since a part of an array field cannot be lent beside
+// another field of the same progress.)
+fn read_first(c: &mut Controller, n: usize, places: &mut [u8])
+    requires { n ≤ length places.old }
+    ensures next { c.new ≡ after_reads n c.old }
+    ensures places { places.new ≡ values_read n c.old ++ drop n places.old }
+{
+    read_block(c, &mut places[..n]);
+}
 
-    // This count is noted.
-    pub(crate) fn note_count(mut self, count: u8) -> Progress
-        ensures { result ≡ does (counts count) self }
+impl Progress {
+    // A register is written. (A refused write changes nothing.)
+    #[tactic(auto, unfolding(crate::specs::Act::does, crate::specs::Act::put, controller::specs::Reply::outcome))]
+    pub(crate) fn write(&mut self, register: u8, value: u8)
+        ensures { self.new ≡ does (writes register value) self.old }
     {
-        self.count = count;
-        self
+        let _ = self.controller.on_write(register, value);
     }
 
     // Register 2 is read, and noted as the count.
-    fn count_read(mut self) -> Progress
-        ensures { result ≡ does reads_count self }
+    #[tactic(auto, unfolding(crate::specs::Act::does, crate::specs::Act::reads, controller::specs::Reply::outcome))]
+    fn read_count(&mut self)
+        ensures { self.new ≡ does reads_count self.old }
     {
-        let c = self.controller;
-        let reply = c.read(2);
-        let answer = reply.answer;
-        let next = reply.controller;
-        self.count = answer.value();
-        self.controller = next;
-        self
+        self.count = value_of(self.controller.on_read(2));
     }
 
-    // 30h: the moved count is noted; the pointer went to 07h for it, and goes back to 00h.
-    pub(crate) fn find_moved(self) -> Progress
-        requires { sound self.controller ≡ true }
-        ensures { result ≡ does_all finds_moved self }
+    // 30h: the moved count is noted; the pointer goes to 07h for it, and back to 00h.
+    #[tactic(auto, unfolding(crate::specs::Act::does_all))]
+    pub(crate) fn find_moved(&mut self)
+        ensures { self.new ≡ does_all finds_moved self.old }
     {
-        let c = self.controller;
-        let p = self.with_record(put_pointer(c, 0x07)).count_read();
-        let d = p.controller;
-        p.with_record(put_pointer(d, 0x00))
+        self.write(0, 0x07);
+        self.read_count();
+        self.write(0, 0x00);
     }
 
     // I2CDAT is read as often as the count noted says, and at most 68 times.
-    pub(crate) fn read_all(mut self) -> Progress
-        ensures { result ≡ does reads_all self }
+    pub(crate) fn read_all(&mut self)
+        ensures { self.new ≡ does reads_all self.old }
     {
-        let n = most(self.count);
-        let c = self.controller;
-        let mut fetched = self.fetched;
-        let next = read_block(c, &mut fetched[..n]);
-        self.controller = next;
-        self.fetched = fetched;
-        self
+        let n = self.count.min(68) as usize;
+        read_first(&mut self.controller, n, &mut self.fetched);
     }
 
     // The driver asks for a STOP, which will give this answer.
-    pub(crate) fn stop(self, ending: Ending) -> Progress
-        requires { sound self.controller ≡ true }
-        ensures { result ≡ performs (stop_after [] ending) self }
+    #[tactic(auto, unfolding(crate::specs::Act::performs, crate::specs::Act::does_all, crate::specs::Act::follows))]
+    pub(crate) fn stop(&mut self, ending: Ending)
+        ensures { self.new ≡ performs (stop_after [] ending) self.old }
     {
-        let c = self.controller;
-        let controller = put_control(c, 0x50);
-        let fetched = self.fetched;
-        Progress {
-            controller,
-            over: self.over,
-            ending,
-            count: self.count,
-            events: self.events,
-            fetched,
-        }
+        self.write(3, 0x50);
+        self.ending = ending;
     }
 
     // The job ends at once, with this answer and count 0.
-    pub fn end(self, ending: Ending) -> Progress
-        ensures { result ≡ follows (ends ending) self }
+    #[tactic(auto, unfolding(crate::specs::Act::follows))]
+    pub fn end(&mut self, ending: Ending)
+        ensures { self.new ≡ follows (ends ending) self.old }
     {
-        let controller = self.controller;
-        let fetched = self.fetched;
-        Progress {
-            controller,
-            over: true,
-            ending,
-            count: 0,
-            events: self.events,
-            fetched,
-        }
+        self.over = true;
+        self.ending = ending;
+        self.count = 0;
     }
-}
-
-// There are 68 places to note bytes at.
-fn most(count: u8) -> usize
-    ensures { result ≡ read_times count }
-{
-    let full = 68 < count;
-    if full { 68 } else { count as usize }
 }

@@ -8,22 +8,23 @@ use control::turn::Turn;
 use controller::record::Controller;
 
 // n is not 1..68.
+#[tactic(auto, unfolding(crate::specs::Request::bad_length), using(notation::proofs::Cases::cases))]
 fn is_bad_length(n: u8) -> bool
     ensures { result ≡ bad_length n }
 {
-    let none = n == 0;
-    if none { true } else { 68 < n }
+    n == 0 || 68 < n
 }
 
 // The address is not 08h..77h.
+#[tactic(auto, unfolding(crate::specs::Request::bad_address), using(notation::proofs::Cases::cases))]
 fn is_bad_address(address: Address) -> bool
     ensures { result ≡ bad_address address }
 {
-    let low = address.0 < 0x08;
-    if low { true } else { 0x77 < address.0 }
+    address.0 < 0x08 || 0x77 < address.0
 }
 
 // The length of what the caller lent: the data of a write, the destination of a read.
+#[tactic(auto, unfolding(crate::specs::Request::lent))]
 fn lent(direction: Direction, given: usize, room: usize) -> usize
     ensures { result ≡ lends direction given room }
 {
@@ -33,40 +34,21 @@ fn lent(direction: Direction, given: usize, room: usize) -> usize
     }
 }
 
-// The job is wrong in itself.
+// The job is wrong in itself. (Four lengths by themselves, as the definition `malformed` has them.)
+#[tactic(auto, unfolding(crate::specs::Request::malformed), using(notation::proofs::Cases::calls))]
 pub fn is_malformed(job: Job, given: usize, room: usize, places: usize, bytes: usize) -> bool
     ensures { result ≡ malformed job given room places bytes }
 {
-    if is_bad_length(job.n) {
-        return true;
-    }
-    let address = job.address;
-    if is_bad_address(address) {
-        return true;
-    }
-    let direction = job.direction;
-    let short = lent(direction, given, room) < job.n as usize;
-    if short {
-        return true;
-    }
-    let narrow = places < 69;
-    if narrow {
-        return true;
-    }
-    bytes % 2 == 1
+    is_bad_length(job.n)
+        || is_bad_address(job.address)
+        || lent(job.direction, given, room) < job.n as usize
+        || places < 69
+        || bytes % 2 == 1
 }
 
 // The controller is ready for a job.
-pub fn is_ready(c: Controller) -> bool
-    ensures { result ≡ ready c }
+pub fn is_ready(c: &Controller) -> bool
+    ensures { result ≡ ready c.now }
 {
-    if c.is_sound() {
-        let turn = c.turn;
-        if let Turn::Free = turn {
-            if c.control.ensio {
-                return !c.control.sta;
-            }
-        }
-    }
-    false
+    c.is_sound() && c.turn == Turn::Free && c.control.ensio && !c.control.sta
 }

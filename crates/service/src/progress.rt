@@ -1,12 +1,10 @@
 // How far a job has come.
-ghost use Rattle.std.specs.Prelude.{◌≡◌};
-ghost use Rattle.service.specs.Progress.{reaching};
-
 use answer::ending::Ending;
 use controller::record::Controller;
 
-// What the driver keeps from one pair of the script to the next.
-#[derive(Clone, Copy)]
+// What the driver keeps from one pair of the script to the next. (`over` stands beside `ending` and `count`, and not in one enum with them: the definitions
+// of `Act` and `Serve`, and the theorems of `runs` and `noninterference`, speak of the three.)
+#[derive(Clone, Copy, Debug, PartialEq, Eq)]
 pub struct Progress {
     pub controller: Controller,
     // The job has ended.
@@ -17,17 +15,6 @@ pub struct Progress {
     pub count: u8,
     // Pairs taken.
     pub events: usize,
-    // Bytes read back, held until own STOP.
+    // Bytes read back, held until own STOP. (Fixed memory: the definitions of `Act` and `driver/Run` speak of it.)
     pub fetched: [u8; 68],
-}
-
-impl Progress {
-    // The record and the pairs taken, as they are now.
-    pub fn reach(mut self, c: Controller, events: usize) -> Progress
-        ensures { result ≡ reaching self c events }
-    {
-        self.controller = c;
-        self.events = events;
-        self
-    }
 }

@@ -8,7 +8,6 @@ use std::io;
 use std::io::Write;
 
 fn main(rt: HostRuntime) {
-    let mut text = [0u8; 6144];
-    let end = rows::put_table(&mut text);
-    let _ = io::writer(&rt).write_all(&text[..end]);
+    let text = rows::table_text();
+    let _ = io::writer(&rt).write_all(text.as_bytes());
 }

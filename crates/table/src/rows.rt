@@ -1,65 +1,61 @@
 // The heading, and a row for each status.
-ghost use Rattle.std.specs.Prelude.{◌*◌, ◌/◌, ◌<◌};
+ghost use Rattle.std.specs.Prelude.{◌≡◌, ◌*◌, ◌/◌, ◌<◌};
 ghost use Rattle.table.specs.TableText.{heading, cells, row_text, rows, table_text};
-ghost use Rattle.text.specs.Text.{Holds};
+ghost use Rattle.text.specs.Text.{appended};
 
 use crate::cells::put_entry;
 use responses::table::{entry_at, pattern};
-use text::put::{put, put_hex, put_word};
+use text::Text;
 
 // `status` and the sixteen patterns of STA, STO, AA and MODE.
-fn put_heading(text: &mut [u8], at: usize) -> usize
-    ensures { Holds at heading text.old text.new result }
+fn put_heading<const N: usize>(text: &mut Text<N>)
+    ensures { text.new ≡ appended N text.old heading }
 {
-    put_word(
-        text,
-        at,
+    text.put_word(
         b"status 0000 0001 0010 0011 0100 0101 0110 0111 1000 1001 1010 1011 1100 1101 1110 1111\n",
-    )
+    );
 }
 
 // The sixteen cells for a status.
-fn put_cells(text: &mut [u8], at: usize, status: u8) -> usize
-    ensures { Holds at (cells (status / 8 * 8) 16) text.old text.new result }
+#[tactic(auto, using(text::proofs::Appended::puts, crate::proofs::OneMore::cell_more), unfolding(crate::specs::TableText::cells))]
+fn put_cells<const N: usize>(text: &mut Text<N>, status: u8)
+    ensures { text.new ≡ appended N text.old (cells (status / 8 * 8) 16) }
 {
-    let mut next = at;
-    let mut column = 0;
-    while column < 16 {
-        let spaced = put(text, next, 32);
-        next = put_entry(text, spaced, entry_at(status, pattern(column)));
-        column += 1;
+    for column in 0..16 {
+        text.put(b' ');
+        put_entry(text, entry_at(status, pattern(column)));
     }
-    next
 }
 
 // The row for a status: its two digits and its cells.
-fn put_row(text: &mut [u8], at: usize, row: u8) -> usize
+#[tactic(auto, using(text::proofs::Appended::puts, crate::proofs::OneMore::eights), unfolding(crate::specs::TableText::row_text))]
+fn put_row<const N: usize>(text: &mut Text<N>, row: u8)
     requires { row < 32 }
-    ensures { Holds at (row_text row) text.old text.new result }
+    ensures { text.new ≡ appended N text.old (row_text row) }
 {
     let status = row * 8;
-    let next = put_hex(text, at, status);
-    let next = put_cells(text, next, status);
-    put(text, next, 10)
+    text.put_hex(status);
+    put_cells(text, status);
+    text.put(b'\n');
 }
 
 // The thirty-two rows.
-fn put_rows(text: &mut [u8], at: usize) -> usize
-    ensures { Holds at (rows 32) text.old text.new result }
+#[tactic(auto, using(text::proofs::Appended::puts, crate::proofs::OneMore::row_more), unfolding(crate::specs::TableText::rows))]
+fn put_rows<const N: usize>(text: &mut Text<N>)
+    ensures { text.new ≡ appended N text.old (rows 32) }
 {
-    let mut next = at;
-    let mut row = 0;
-    while row < 32 {
-        next = put_row(text, next, row);
-        row += 1;
+    for row in 0..32 {
+        put_row(text, row);
     }
-    next
 }
 
 // The whole table.
-pub(crate) fn put_table(text: &mut [u8]) -> usize
-    ensures { Holds 0 table_text text.old text.new result }
+#[tactic(auto, using(text::proofs::Appended::puts, crate::proofs::Size::whole), unfolding(crate::specs::TableText::table_text))]
+pub(crate) fn table_text() -> Text<6144>
+    ensures { result ≡ table_text }
 {
-    let next = put_heading(text, 0);
-    put_rows(text, next)
+    let mut text = Text::new();
+    put_heading(&mut text);
+    put_rows(&mut text);
+    text
 }

@@ -1,4 +1,4 @@
 -- Laws that the proofs here cite.
-pub mod Holds
-pub mod First
+pub mod Appended
+pub mod Listed
 pub mod Digits

@@ -1,2 +1,2 @@
--- Text in lent memory.
+-- Text in fixed memory.
 pub mod Text

@@ -1,4 +1,6 @@
-// Words, numbers and bytes as text, put into memory that the caller lends.
+// Words, numbers and bytes as text in fixed memory.
 #![tactic(auto)]
 
-pub mod put;
+mod put;
+
+pub use put::Text;

@@ -1,4 +1,5 @@
 -- Whatever is asked of a record, it keeps its 68 places. Assumes nothing.
+use Rattle.std.specs.Prelude.{Option, Some, None}
 use mathlib.Core.Bool.{Bool}
 use mathlib.Core.Path.{◌≡◌, refl}
 use Prim.Native.Nat.{ℕ}
@@ -11,8 +12,6 @@ use Rattle.control.specs.declared.turn.Called.TheVariants as called
 use Rattle.control.specs.declared.turn.Called.{Called}
 use Rattle.control.specs.declared.turn.Edge.{Edge}
 use Rattle.control.specs.declared.turn.Turn.{Turn}
-use Rattle.control.specs.declared.writing.Response.TheVariants.{Next, Unlisted}
-use Rattle.control.specs.declared.writing.Response.{Response}
 use Rattle.controller.specs.Access.{indirect_at, read_sound, read_of, write_sound, write_of}
 use Rattle.controller.specs.Condition.{own_start, other_start, other_stop, own_stop, addressed, address_byte}
 use Rattle.controller.specs.Condition.{outbid, address_lost, data_lost, illegal_edge, data_held, clock_held, idle}
@@ -85,10 +84,10 @@ unfolding slave_in data_in received
 slave_in_lem c byte called.Own = search ends
 slave_in_lem c byte called.General = search ends
 
-enabling : (c : Controller) (k : Control) (r : Response) → Sized c (enabled c k r)
+enabling : (c : Controller) (k : Control) (r : Option Turn) → Sized c (enabled c k r)
 unfolding enabled controlled
-enabling c k Unlisted = search ends
-enabling c k (Next t) = search ends
+enabling c k None = search ends
+enabling c k (Some t) = search ends
 
 pub event-sized : (c : Controller) (number argument : ℕ) → Sized c (event_of c number argument)
 unfolding event_of event_sound own_start other_start other_stop own_stop address_byte address_lost data_lost illegal_edge data_held clock_held idle byte_out data_out byte_in

@@ -1,5 +1,7 @@
 -- What the calls on a controller in lent bytes give, whatever the bytes hold.
-use Rattle.std.specs.Prelude.{List, [], ℕ, ◌+◌, ◌*◌, eqb, ltb, length}
+use Rattle.std.specs.Prelude.{List, [], ℕ, ◌+◌, ◌*◌, eqb, ltb, length, Result, Ok, Err}
+use Rattle.answer.specs.Refusal.{refusal_number}
+use Rattle.answer.specs.declared.Refusal.{Refusal}
 use Rattle.controller.specs.Reply.{Outcome}
 use Rattle.controller.specs.Reset.{fresh}
 use Rattle.notation.specs.Choice.{when◌then◌else◌}
@@ -18,6 +20,11 @@ refusing number = record { answer = number; bytes = [] }
 -- a fresh controller; 10 where there is no room for it
 unfoldable pub fresh_call : List ℕ → ChipCall
 fresh_call m = when ltb (length m) record_size then refusing 10 else record { answer = 0; bytes = bytes_of fresh }
+
+-- its result as a number, 0 where it is made
+unfoldable pub made_number : Result (Unit {0}) Refusal → ℕ
+made_number (Ok x) = 0
+made_number (Err why) = refusal_number why
 
 -- in one number: the refusal, 0 for accepted, and 256 times the value
 unfoldable pub packed : Outcome → ℕ

@@ -2,6 +2,5 @@
 #![tactic(auto)]
 
 pub mod calls;
-mod memory;
 pub mod numbers;
 pub mod record;

@@ -1,11 +1,10 @@
 use mathlib.Core.Path.{◌≡◌}
-use Prim.Native.Nat.{◌≤◌, ◌-◌}
-use lib.ListN.{length, drop}
+use lib.ListN.{drop}
 use Rattle.block.specs.Block.{reach_of, written}
 use Rattle.block.proofs.write_block.Given as goal
 
-abbrev pub invariant-loop-i : goal.invariant-loop-i
-invariant-loop-i l = (l.i ≤ length l.bytes) × (reach_of l.next ≡ l.end) × (l.end ≤ 68) × (written (drop l.i l.bytes) l.next ≡ written l.bytes l.initial.next)
-
-abbrev pub decreases-loop-i : goal.decreases-loop-i
-decreases-loop-i l = length l.bytes - l.i
+abbrev pub invariant-loop-byte : goal.invariant-loop-byte
+invariant-loop-byte l = record {
+  reach : reach_of l.c ≡ l.end;
+  all : written (drop l.byte-index l.bytes) l.c ≡ written l.bytes l.initial.c;
+}

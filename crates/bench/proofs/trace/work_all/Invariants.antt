@@ -1,10 +1,8 @@
--- `work_all` ends: what is left of its range falls with each round.
-use Prim.Native.Nat.{◌-◌}
-use lib.ListN.{length}
+use Rattle.std.proofs.Common.{◌≤◌, length}
 use Rattle.bench.proofs.trace.work_all.Given as goal
 
-abbrev pub invariant-loop-at : goal.invariant-loop-at
-invariant-loop-at g l = Unit {0}
+abbrev pub invariant-loop-group : goal.invariant-loop-group
+invariant-loop-group g l = length l.rest ≤ length l.initial.rest
 
-abbrev pub decreases-loop-at : goal.decreases-loop-at
-decreases-loop-at g l = length l.trace - l.at
+abbrev pub decreases-loop-group : goal.decreases-loop-group
+decreases-loop-group g l = length l.rest

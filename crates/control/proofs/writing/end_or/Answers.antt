@@ -11,6 +11,6 @@ pub returns-then-k-2 : goal.returns-then-k-2
 unfolding end_or
 returns-then-k-2 c = search cases
 
-pub returns : goal.returns
+pub returns-else-k-2 : goal.returns-else-k-2
 unfolding end_or
-returns c = search cases
+returns-else-k-2 c = search cases

@@ -1,8 +1,10 @@
 -- `respond_at` is `responds_at`: what is known at each return settles the tests of the definition.
 use mathlib.Core.List.{[], ◌∷◌}
+use mathlib.Core.Path.{sym, ◌∙◌}
 use Rattle.control.specs.Writing.{responds_at}
 use Rattle.notation.proofs.Among.{keys_in, none_of}
 use Rattle.notation.proofs.Cases.{cases}
+use Rattle.control.proofs.writing.respond_at.Goals.{then-k-2, else-k-2}
 use Rattle.control.proofs.writing.respond_at.Goals as goal
 
 pub returns-then-k : goal.returns-then-k
@@ -17,17 +19,21 @@ pub returns-in-24 : goal.returns-in-24
 unfolding responds_at
 returns-in-24 c = search (keys_in (0x18 ∷ 0x20 ∷ 0x28 ∷ 0x30 ∷ []) c.args.status c.in-24.is, cases)
 
-pub returns-then-k-2 : goal.returns-then-k-2
-unfolding responds_at
-returns-then-k-2 c = search (keys_in (0x40 ∷ 0x50 ∷ []) c.args.status c.in-64.is, cases)
-
 pub returns-then-k-3 : goal.returns-then-k-3
 unfolding responds_at
-returns-then-k-3 c = search (keys_in (0x40 ∷ 0x50 ∷ []) c.args.status c.in-64.is, cases)
+returns-then-k-3 c =
+    elim c.if-k-2.branch [
+      | then-k-2 w ↦ search (keys_in (0x40 ∷ 0x50 ∷ []) c.args.status c.in-64.is, w.if-k-2.true, cases)
+      | else-k-2 w ↦ search (keys_in (0x40 ∷ 0x50 ∷ []) c.args.status c.in-64.is, sym w.value-is ∙ c.if-k-3.true, cases)
+    ]
 
 pub returns-else-k-3 : goal.returns-else-k-3
 unfolding responds_at
-returns-else-k-3 c = search (keys_in (0x40 ∷ 0x50 ∷ []) c.args.status c.in-64.is, cases)
+returns-else-k-3 c =
+    elim c.if-k-2.branch [
+      | then-k-2 w ↦ search (keys_in (0x40 ∷ 0x50 ∷ []) c.args.status c.in-64.is, sym w.value-is ∙ c.if-k-3.false, cases)
+      | else-k-2 w ↦ search (keys_in (0x40 ∷ 0x50 ∷ []) c.args.status c.in-64.is, w.if-k-2.false, sym w.value-is ∙ c.if-k-3.false, cases)
+    ]
 
 pub returns-in-72 : goal.returns-in-72
 unfolding responds_at

@@ -2,8 +2,8 @@
 use Rattle.notation.proofs.Cases.{cases}
 use Rattle.controller.proofs.event.is_no_event.Goals as goal
 
-pub returns-then-none : goal.returns-then-none
-returns-then-none c = search cases
+pub returns-then-number-eq0 : goal.returns-then-number-eq0
+returns-then-number-eq0 c = search cases
 
-pub returns-else-none : goal.returns-else-none
-returns-else-none c = search cases
+pub returns-else-number-eq0 : goal.returns-else-number-eq0
+returns-else-number-eq0 c = search cases

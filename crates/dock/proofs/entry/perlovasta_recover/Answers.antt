@@ -1,66 +1,35 @@
--- `perlovasta_recover` is `recover_call`: zeros, the settings and the head are put.
-use mathlib.Core.List.{List}
-use mathlib.Core.Path.{sym, ap, ◌∙◌}
-use Prim.Native.Nat.{ℕ}
-use native.Mathlib.Omega.{arith}
-use borrow.Author.Tests.{ltb-false}
-use lib.ListN.{length, take, drop}
-use lib.Seq.{take-length}
-use Rattle.notation.proofs.Laid.{laid_at-length}
+-- `perlovasta_recover` is `recover_call`: `begin` promises it of the stand and the settings.
+use mathlib.Core.Path.{refl, sym, ap, ◌∙◌}
+use lib.ListN.{replicate}
+use Rattle.dock.proofs.First.{not-short, port, all-told}
 use Rattle.dock.proofs.Padded.{padded-length}
-use Rattle.dock.proofs.Told.{not_done_lem, told_anew}
-use Rattle.dock.specs.Calls.{too_short, recover_call}
-use Rattle.dock.specs.StateBytes.{head_bytes, stand_of, port_of}
-use Rattle.notation.proofs.Cases.{when-true, when-false}
-use Rattle.notation.specs.Overlay.{laid, laid_at}
+use Rattle.dock.specs.Calls.{telling, recover_call}
+use Rattle.dock.specs.StateBytes.{bytes_of, stand_of, port_of}
+use Rattle.notation.proofs.Cases.{when-false}
+use Rattle.notation.specs.Overlay.{laid}
 use Rattle.port.proofs.Begun.{recovery-asks}
 use Rattle.port.specs.Ask.{ask_number}
 use Rattle.port.specs.Begin.{recover_of}
 use Rattle.port.specs.Hear.{first_ask}
-use Rattle.port.specs.Port.{padded, recovering}
+use Rattle.port.specs.Port.{Port, padded, recovering}
 use Rattle.port.specs.declared.stand.Stand.{Stand}
 use Rattle.dock.proofs.entry.perlovasta_recover.Goals as goal
 
-pub returns-then-short : goal.returns-then-short
-unfolding recover_call too_short
-returns-then-short c =
-    let a = c.args in
-    let all =
-    not_done_lem (recover_call a.state.now a.settings.now) a.state.now (when-true _ _ _ c.if-short.true-raw) in
-    record { step = all.0; state = all.1 }
-
-pub put_padded-requires-2 : goal.put_padded-requires-2
-put_padded-requires-2 c =
-    let long = ltb-false (length c.args.state.now) 148 c.if-short.false-raw in
-    let same = c.put_padded.auto.state in
-    (omega (arith, long, same), omega arith)
-
-pub tell_first-requires : goal.tell_first-requires
-tell_first-requires c =
-    let long = ltb-false (length c.args.state.now) 148 c.if-short.false-raw in
-    let first = c.put_padded.auto.state in
-    let second = c.put_padded-2.auto.state in
-    omega (arith, long, first, second)
-
 pub returns : goal.returns
-unfolding recover_call too_short recovering port_of padded
+unfolding recover_call recovering telling port_of
 returns c =
-    let tell = c.tell_first in
-    let put = c.put_padded-2 in
-    let zeros = c.put_padded in
-    let a = c.args in
-    let m = a.state.now in
-    let settings = a.settings.now in
-    let long = ltb-false (length m) 148 c.if-short.false-raw in
-    let p = recovering (port_of m) settings in
+    let settings = c.args.settings.now in
+    let m = c.args.state.now in
+    let a = c.in-Some.state.now in
+    let first = c.in-Some.ensures.cases in
+    let begun = c.begin.ensures in
+    let p = recovering (port_of a) settings in
     let stand = c.bring_back-stand.ensures ∙ ap (λ (s : Stand). recover_of s settings) c.load.ensures in
-    let first = recovery-asks (take 68 (drop 12 put.new.state)) (stand_of m) settings in
-    let size = laid_at-length 80 p.fetched m in
     let all =
-    told_anew (recover_call m settings) p m put.new.state _ _ (when-false _ _ _ c.if-short.false-raw)
-    (tell.ensures.step ∙ ap (λ (s : Stand). ask_number (first_ask s)) stand ∙ ap ask_number (sym first))
-    (tell.ensures.state ∙ ap (λ (s : Stand). laid (head_bytes s) put.new.state) stand)
-    (padded-length settings) (omega (arith, size, long))
-    (put.ensures ∙ ap (λ (xs : List ℕ). laid_at 12 (padded xs) zeros.new.state) (take-length settings)
-    ∙ ap (laid_at 12 (padded settings)) zeros.ensures) in
+    all-told m a first (recover_call m settings) p _ _
+    (when-false _ _ _ (not-short m a first) ∙ ap (λ (q : Port). telling (recovering q settings)) (sym (port m a first)))
+    (padded-length settings) refl (
+      begun.step ∙ ap (λ (s : Stand). ask_number (first_ask s)) stand ∙ ap ask_number (sym (recovery-asks (padded settings) (stand_of a) settings)),
+      begun.state ∙ ap (λ (s : Stand). laid (bytes_of (record { stand = s; payload = padded settings; fetched = replicate 68 0 })) a) stand,
+    ) in
     record { step = all.0; state = all.1 }

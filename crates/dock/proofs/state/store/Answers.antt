@@ -1,32 +1,21 @@
--- `store` lays the head: the four bytes that `update` leaves as they are are stored first, and under the head nothing else matters.
-use mathlib.Core.Path.{◌∙◌}
+-- `store` lays the head: its bytes are stored one by one, as its calls promise them.
+use mathlib.Core.Bool.{Bool, true, false}
+use mathlib.Core.Path.{◌≡◌, refl, sym}
+use mir.Val.{bool_byte}
 use native.Mathlib.Omega.{arith}
-use lib.ListN.{length-set}
-use Rattle.dock.proofs.Fixed.{fixed_stored}
-use Rattle.notation.proofs.Laid.{laid-over}
-use Rattle.dock.specs.StateBytes.{head_bytes}
+use Rattle.dock.specs.StateBytes.{bit, head_bytes}
+use Rattle.notation.proofs.Laid.{laid_sets}
+use Rattle.notation.specs.Choice.{when◌then◌else◌}
 use Rattle.dock.proofs.state.store.Goals as goal
 
-pub bounds-state-1 : goal.bounds-state-1
-bounds-state-1 c = simp length-set (omega arith)
-
-pub bounds-state-4 : goal.bounds-state-4
-bounds-state-4 c = simp length-set (omega arith)
-
-pub bounds-state-5 : goal.bounds-state-5
-bounds-state-5 c = simp length-set (omega arith)
-
-pub update-requires : goal.update-requires
-update-requires c =
-    (simp length-set (omega (arith, c.requires)), fixed_stored c.args.s c.args.state.now (omega (arith, c.requires)))
-
-pub shape_of-state : goal.shape_of-state
-shape_of-state c = c.update.auto.state ∙ simp length-set
+bit_is : (b : Bool) → bool_byte b ≡ bit b
+unfolding bit when◌then◌else◌
+bit_is true = refl
+bit_is false = refl
 
 pub returns : goal.returns
 unfolding head_bytes
 returns c =
-    let a = c.args in
-    let h = head_bytes a.s in
-    c.update.ensures
-    ∙ laid-over h _ 5 _ (omega arith) ∙ laid-over h _ 4 _ (omega arith) ∙ laid-over h _ 1 _ (omega arith) ∙ laid-over h a.state.now 0 _ (omega arith)
+    let s = c.args.s in
+    rw (c.from.ensures, c.bit.ensures, c.from-2.ensures, c.from-3.ensures, bit_is s.due, bit_is s.stale)
+    (sym (laid_sets (head_bytes s) c.args.state.now (omega arith)))

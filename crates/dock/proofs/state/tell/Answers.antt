@@ -10,13 +10,11 @@ use Rattle.port.specs.Ask.{ask_number}
 use Rattle.port.specs.Hear.{asks}
 use Rattle.dock.proofs.state.tell.Goals as goal
 
-pub returns : goal.returns
+pub returns-clause-step : goal.returns-clause-step
 unfolding head_bytes
-returns c =
-    let put = c.update.ensures in
+returns-clause-step c =
     let a = c.before.args in
-    let behind = ap (drop 12) put ∙ after-laid 12 (head_bytes a.s) a.state.now (omega arith) in
-    record {
-      step = c.number.ensures ∙ ap ask_number c.ask-ask.ensures ∙ ap (λ (l : List ℕ). ask_number (asks a.s (take 68 l))) behind;
-      state = put;
-    }
+    let behind = ap (drop 12) c.store.ensures ∙ after-laid 12 (head_bytes a.s) a.state.now (omega arith) in
+    c.from.ensures ∙ ap ask_number c.ask.ensures
+    ∙ ap (λ (l : List ℕ). ask_number (asks a.s l)) c.payload.ensures
+    ∙ ap (λ (l : List ℕ). ask_number (asks a.s (take 68 l))) behind

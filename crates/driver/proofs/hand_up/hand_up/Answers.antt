@@ -1,31 +1,38 @@
 -- `hand_up` lays `hands_up` over the destination: what is known at each return settles the test of the definition.
-use mathlib.Core.List.{List}
-use mathlib.Core.Path.{ap, sym, ◌∙◌}
+use mathlib.Core.List.{List, ◌++◌}
+use mathlib.Core.Path.{◌≡◌, sym, ap}
 use Prim.Native.Nat.{ℕ}
-use lib.Dec.{eqb}
+use native.Mathlib.Omega.{arith}
+use lib.ListN.{take, drop}
+use lib.Seq.{length-take-le}
+use Rattle.std.proofs.lemmas.Grind.{common_steps}
+use Rattle.address.specs.Number.{bit_of}
+use Rattle.address.specs.declared.number.Direction.TheVariants.{Read}
+use Rattle.answer.specs.Ending.{number_of}
 use Rattle.driver.specs.Run.{hands_up}
+use Rattle.notation.proofs.Laid.{laid-whole}
 use Rattle.notation.specs.Overlay.{laid}
-use Rattle.notation.proofs.Cases.{when-true, when-false, and-true, and_no_left, and_no_right}
+use Rattle.notation.specs.Choice.{when◌then◌else◌, ◌and◌}
 use Rattle.driver.proofs.hand_up.hand_up.Goals as goal
 
-pub returns-then-read : goal.returns-then-read
-unfolding hands_up
-returns-then-read c =
-    let destination = c.args.destination.now in
-    let done = ap (λ (k : ℕ). eqb k 0) (sym c.number-done.ensures) ∙ c.if-done.true-raw in
-    let read = ap (λ (k : ℕ). eqb k 1) (sym c.bit-read.ensures) ∙ c.if-read.true-raw in
-    c.copy_first.ensures ∙ sym (ap (λ (l : List ℕ). laid l destination) (when-true _ _ _ (and-true _ _ done read)))
+pub slice_bounds-copy_from_slice-end-then-eq-2 : goal.slice_bounds-copy_from_slice-end-then-eq-2
+slice_bounds-copy_from_slice-end-then-eq-2 c =
+    let read : c.args.job.direction ≡ Read = grind (arith, common_steps) in
+    sym (length-take-le c.args.job.n c.args.destination.now (c.requires.lent read))
 
-pub returns-else-read : goal.returns-else-read
-unfolding hands_up laid
-returns-else-read c =
+pub returns-then-eq-2 : goal.returns-then-eq-2
+unfolding hands_up when◌then◌else◌ ◌and◌ bit_of
+returns-then-eq-2 c =
+    let job = c.args.job in
+    let bytes = take job.n c.args.fetched.now in
+    let read : job.direction ≡ Read = grind (arith, common_steps) in
+    let l = length-take-le job.n c.args.fetched.now (omega arith) in
+    let room = c.requires.lent read in
     let destination = c.args.destination.now in
-    let written = ap (λ (k : ℕ). eqb k 1) (sym c.bit-read.ensures) ∙ c.if-read.false-raw in
-    sym (ap (λ (l : List ℕ). laid l destination) (when-false _ _ _ (and_no_right _ _ written)))
+    let handed : hands_up job (number_of c.args.ending) c.args.fetched.now ≡ bytes = grind (arith, common_steps) in
+    rw (handed, laid-whole bytes destination (omega (arith, l, room)), l)
+    (ap (λ (xs : List ℕ). xs ++ drop job.n destination) c.copy_from_slice.ensures.after)
 
-pub returns-else-done : goal.returns-else-done
-unfolding hands_up laid
-returns-else-done c =
-    let destination = c.args.destination.now in
-    let undone = ap (λ (k : ℕ). eqb k 0) (sym c.number-done.ensures) ∙ c.if-done.false-raw in
-    sym (ap (λ (l : List ℕ). laid l destination) (when-false _ _ _ (and_no_left _ _ undone)))
+pub returns-else-eq : goal.returns-else-eq
+unfolding hands_up laid when◌then◌else◌ ◌and◌ bit_of
+returns-else-eq c = grind (arith, common_steps)

@@ -6,6 +6,6 @@ use Rattle.perlovasta.proofs.log.log_entry.Goals as goal
 pub returns : goal.returns
 unfolding entry_of leaves
 returns c =
-    let status = status-reads c.args.c c.requires in
-    let control = control-reads c.args.c c.requires in
+    let status = status-reads c.args.c.now c.requires in
+    let control = control-reads c.args.c.now c.requires in
     cc

@@ -1,6 +1,6 @@
 use mathlib.Core.Bool.{true}
 use mathlib.Core.Path.{◌≡◌}
-use Prim.Native.Nat.{◌+◌, ◌-◌, ◌*◌, ◌/◌, ◌≤◌}
+use Prim.Native.Nat.{◌*◌}
 use lib.ListN.{length, drop}
 use Rattle.controller.specs.Record.{sound}
 use Rattle.notation.specs.Overlay.{laid, laid_at}
@@ -9,8 +9,5 @@ use Rattle.perlovasta.proofs.trace.put_log.Given as goal
 
 abbrev pub invariant-loop-i : goal.invariant-loop-i
 invariant-loop-i l =
-    (l.i ≤ length l.trace) × (l.at + 8 * ((length l.trace - l.i) / 3) ≤ length l.log) × (length l.log ≡ length l.initial.log) × (sound l.c ≡ true) ×
-    (laid_at l.at (log_of l.c (drop l.i l.trace)) l.log ≡ laid (log_of l.initial.c l.trace) l.initial.log)
-
-abbrev pub decreases-loop-i : goal.decreases-loop-i
-decreases-loop-i l = length l.trace - l.i
+    (length l.log ≡ length l.initial.log) × (sound l.c ≡ true) ×
+    (laid_at (8 * l.i) (log_of l.c (drop (3 * l.i) l.trace)) l.log ≡ laid (log_of l.initial.c l.trace) l.initial.log)

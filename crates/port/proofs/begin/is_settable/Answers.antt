@@ -34,10 +34,10 @@ high k h other =
     )
 
 pub returns-in_default : goal.returns-in_default
-returns-in_default c = sym (high c.args.pointer c.in_default.if-pointer-lt5-own.false c.in_default.in_default-own.rest.1)
+returns-in_default c = sym (high c.args.pointer c.in_default.if-matches-own.false c.in_default.in_default-own.rest.1)
 
 pub returns-in-0 : goal.returns-in-0
 returns-in-0 c = sym (keys_in (6 ∷ []) c.args.pointer c.in-0.is true settable tt)
 
 pub returns-in-0-2 : goal.returns-in-0-2
-returns-in-0-2 c = sym (low c.args.pointer c.in-0.if-pointer-lt5-own.true)
+returns-in-0-2 c = sym (low c.args.pointer c.in-0.if-matches-own.true)

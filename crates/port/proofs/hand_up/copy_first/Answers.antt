@@ -1,11 +1,10 @@
 -- `copy_first` lays the first n bytes over the destination: those that are left, laid from place i on, always give what all of them give.
 use mathlib.Core.List.{List, ◌∷◌}
-use mathlib.Core.Path.{◌≡◌, refl, sym, ap, ◌∙◌}
+use mathlib.Core.Path.{◌≡◌, sym, ap, ◌∙◌}
 use Prim.Native.Nat.{ℕ, ◌+◌, ◌≤◌, ◌<◌}
 use native.Mathlib.Numerals.{add-one}
 use native.Mathlib.Omega.{arith}
-use borrow.Author.Rules.{rules}
-use lib.ListN.{length, get_or, take, drop, length-take, length-set, drop_of_length-le}
+use lib.ListN.{length, get_or, take, drop, length-take, drop_of_length-le}
 use lib.Seq.{drop-cons, get_or-take}
 use Rattle.notation.proofs.Overlay.{at_start, none, one_more}
 use Rattle.notation.specs.Overlay.{laid_at}
@@ -22,13 +21,13 @@ all_laid : (i : ℕ) (xs lent all : List ℕ) → length xs ≤ i → laid_at i 
 all_laid i xs lent all h e = sym (rw (drop_of_length-le xs h) (none i lent)) ∙ e
 
 pub loop-i-init : goal.loop-i-init
-loop-i-init c = (search rules, refl, at_start (take c.args.n c.args.bytes.now) c.args.destination.now)
+loop-i-init c = at_start (take c.args.n c.args.bytes.now) c.args.destination.now
 
 pub returns-then-bytes-i : goal.returns-then-bytes-i
 returns-then-bytes-i c =
     let l = c.loop-i in
     let s = c.args in
-    all_laid l.i (take s.n s.bytes.now) l.destination _ (omega (arith, length-take s.n s.bytes.now)) l.invariant.2
+    all_laid l.i (take s.n s.bytes.now) l.destination _ (omega (arith, length-take s.n s.bytes.now)) l.invariant
 
 pub loop-i-preserved : goal.loop-i-preserved
 loop-i-preserved c =
@@ -36,16 +35,13 @@ loop-i-preserved c =
     let s = c.args in
     let bytes = s.bytes.now in
     let x = get_or bytes l.i 0 in
-    let first = next s.n bytes l.i (omega arith) (omega arith) in (
-      omega arith,
-      length-set l.destination l.i x ∙ l.invariant.1,
-      one_more l.i x (drop (l.i + 1) (take s.n bytes)) l.destination (omega arith)
-          ∙ sym (ap (λ (xs : List ℕ). laid_at l.i xs l.destination) first)
-          ∙ l.invariant.2,
-    )
+    let first = next s.n bytes l.i (omega arith) (omega arith) in
+    one_more l.i x (drop (l.i + 1) (take s.n bytes)) l.destination (omega arith)
+    ∙ sym (ap (λ (xs : List ℕ). laid_at l.i xs l.destination) first)
+    ∙ l.invariant
 
 pub returns : goal.returns
 returns c =
     let l = c.loop-i in
     let s = c.args in
-    all_laid l.i (take s.n s.bytes.now) l.destination _ (omega (arith, length-take s.n s.bytes.now)) l.invariant.2
+    all_laid l.i (take s.n s.bytes.now) l.destination _ (omega (arith, length-take s.n s.bytes.now)) l.invariant

@@ -1,12 +1,12 @@
 -- `follow` is `by_entry`, case by case.
 use mathlib.Core.Path.{◌∙◌}
-use Rattle.controller.specs.Effect.{after_control}
+use Rattle.controller.proofs.Outcomes.{refused}
 use Rattle.responses.specs.Engine.{by_entry}
 use Rattle.responses.proofs.engine.follow.Goals as goal
 
 pub returns-in-Never : goal.returns-in-Never
-unfolding by_entry after_control
-returns-in-Never c = rw c.in-Never.is
+unfolding by_entry
+returns-in-Never c = rw c.in-Never.is (refused _ _)
 
 pub returns-in-Beside : goal.returns-in-Beside
 unfolding by_entry
@@ -14,12 +14,12 @@ returns-in-Beside c = c.beside.ensures ∙ rw c.in-Beside.is
 
 pub returns-in-Stays : goal.returns-in-Stays
 unfolding by_entry
-returns-in-Stays c = c.accept.ensures ∙ rw c.in-Stays.is
+returns-in-Stays c = c.accept_control.ensures ∙ rw c.in-Stays.is
 
 pub returns-in-Refused : goal.returns-in-Refused
-unfolding by_entry after_control
-returns-in-Refused c = rw c.in-Refused.is
+unfolding by_entry
+returns-in-Refused c = rw c.in-Refused.is (refused _ _)
 
 pub returns-in-Next : goal.returns-in-Next
 unfolding by_entry
-returns-in-Next c = c.lead.ensures ∙ rw c.in-Next.is
+returns-in-Next c = c.enable.ensures ∙ rw c.in-Next.is

@@ -11,7 +11,7 @@ unfolding Agrees
 returns c =
     let status = c.args.status in
     let column = c.column.ensures in
-    c.of_number.ensures
-    ∙ c.table-rows.ensures (status / 8) c.column.result (search rules) column.1
-    ∙ ap (λ (n : ℕ). entry_at (status / 8 * 8) (pattern_of n)) column.0
+    c.from.ensures
+    ∙ c.table-rows.ensures (status / 8) c.column.result (search rules) column.below
+    ∙ ap (λ (n : ℕ). entry_at (status / 8 * 8) (pattern_of n)) column.column
     ∙ entry_column _ _

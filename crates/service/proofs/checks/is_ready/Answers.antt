@@ -1,31 +1,40 @@
--- `is_ready` is `ready`: what is known at each return settles the tests of the definition.
+-- `is_ready` is `ready`: Free is the one turn of its kind.
+use mathlib.Core.Bool.{true}
 use mathlib.Core.List.{[], ◌∷◌}
-use mathlib.Core.Path.{sym, ◌∙◌}
-use Rattle.control.proofs.Turning.{at_turn, at_turns, except}
-use Rattle.control.specs.Turn.{free}
+use mathlib.Core.Path.{◌≡◌, refl}
+use native.Mathlib.Omega.{arith}
+use Rattle.std.proofs.lemmas.Grind.{common_steps}
+use Rattle.control.specs.Turn.{free, kind, waits}
+use Rattle.control.specs.declared.turn.Turn.TheVariants.{Off, Host, Free, Busy, Listen}
+use Rattle.control.specs.declared.turn.Turn.TheVariants.{Address, Send, Receive, SlaveReceive, SlaveSend, Stopping, Restarting}
+use Rattle.control.specs.declared.turn.Turn.{Turn}
+use Rattle.notation.specs.Choice.{when◌then◌else◌, ◌and◌, among}
 use Rattle.service.specs.Request.{ready}
-use Rattle.notation.proofs.Cases.{cases}
-use borrow.Enum.Refused.{opened}
 use Rattle.service.proofs.checks.is_ready.Goals as goal
 
+free_waits : (t : Turn) → t ≡ Free → waits t (free ∷ []) ≡ true
+unfolding kind among when◌then◌else◌
+free_waits t e = rw e refl
+
+waits_free : (t : Turn) → waits t (free ∷ []) ≡ true → t ≡ Free
+unfolding kind among when◌then◌else◌
+waits_free Off e = cc
+waits_free (Host s d) e = cc
+waits_free Free e = refl
+waits_free Busy e = cc
+waits_free Listen e = cc
+waits_free Address e = cc
+waits_free Send e = cc
+waits_free Receive e = cc
+waits_free (SlaveReceive w) e = cc
+waits_free SlaveSend e = cc
+waits_free Stopping e = cc
+waits_free Restarting e = cc
+
 pub returns-then-c : goal.returns-then-c
-unfolding ready
-returns-then-c c =
-    let sound = sym c.is_sound.ensures ∙ c.if-is_sound.true in
-    search (sound, at_turn free c.args.c.turn c.in-Free.in-Free-own.keys1, cases)
+unfolding ready ◌and◌
+returns-then-c c = grind (arith, common_steps, free_waits, waits_free)
 
 pub returns-else-c : goal.returns-else-c
-unfolding ready
-returns-else-c c =
-    let sound = sym c.is_sound.ensures ∙ c.if-is_sound.true in
-    search (sound, at_turn free c.args.c.turn c.in-Free.in-Free-own.keys1, cases)
-
-pub returns-in_default : goal.returns-in_default
-unfolding ready
-returns-in_default c =
-    let sound = sym c.is_sound.ensures ∙ c.if-is_sound.true in
-    search (sound, at_turns (except (free ∷ [])) c.args.c.turn (opened c.in_default.in_default-own.keys2), cases)
-
-pub returns-else-is_sound : goal.returns-else-is_sound
-unfolding ready
-returns-else-is_sound c = search (sym c.is_sound.ensures ∙ c.if-is_sound.false, cases)
+unfolding ready ◌and◌
+returns-else-c c = grind (arith, common_steps, free_waits, waits_free)

@@ -8,4 +8,4 @@ use Rattle.table.proofs.rows.put_heading.Goals as goal
 
 pub returns : goal.returns
 unfolding heading patterns bits pattern_of weighs digit when◌then◌else◌
-returns c = c.put_word.ensures
+returns g c = c.put_word.ensures

@@ -1,10 +1,7 @@
-use Prim.Native.Nat.{◌≤◌, ◌-◌}
+use mathlib.Core.Path.{◌≡◌}
 use Rattle.table.specs.TableText.{rows}
-use Rattle.text.specs.Text.{Holds}
+use Rattle.text.specs.Text.{appended}
 use Rattle.table.proofs.rows.put_rows.Given as goal
 
 abbrev pub invariant-loop-row : goal.invariant-loop-row
-invariant-loop-row l = (l.row ≤ 32) × Holds l.at (rows l.row) l.initial.text l.text l.next
-
-abbrev pub decreases-loop-row : goal.decreases-loop-row
-decreases-loop-row l = 32 - l.row
+invariant-loop-row g l = l.text ≡ appended g.row.N l.initial.text (rows l.row)

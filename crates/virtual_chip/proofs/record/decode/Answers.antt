@@ -1,9 +1,10 @@
--- `decode` is `decoded`: the bytes are read one by one.
-use mathlib.Core.Path.{refl}
-use Rattle.virtual_chip.specs.RecordBytes.{decoded}
+-- `decode` gives the record if the first 88 bytes are one.
+use Rattle.std.proofs.Common.{rules}
+use Rattle.virtual_chip.proofs.Bytes.{no_room, decoded-of}
 use Rattle.virtual_chip.proofs.record.decode.Goals as goal
 
+pub returns-in_err-first_chunk : goal.returns-in_err-first_chunk
+returns-in_err-first_chunk c = search (no_room c.args.memory.now c.in_err-first_chunk.ensures.cases, rules)
+
 pub returns : goal.returns
-unfolding decoded
-returns c =
-    rw (c.load_buffer-buffer.ensures, c.turn_for-turn.ensures, c.reason_for-reason.ensures) refl
+returns c = decoded-of _ _ _ c.in_ok-first_chunk.ensures.cases.enough c.in_ok-first_chunk.ensures.cases.same c.parse.ensures

@@ -1,4 +1,4 @@
--- `byte` is `bit_of`: what is known at each return settles the tests of the definition.
+-- `byte` is `byte_of`: what is known at each return settles the tests of the definition.
 use Prim.Native.Nat.{◌≤◌}
 use native.Mathlib.Omega.{arith}
 use lib.Dec.{lit≤}
@@ -13,8 +13,8 @@ bit_small Write = lit≤ tt
 bit_small Read = lit≤ tt
 
 pub overflow_add-result : goal.overflow_add-result
-overflow_add-result c = omega (arith, c.bit-bit.ensures, bit_small c.args.direction)
+overflow_add-result c = omega (arith, c.bit.ensures, bit_small c.args.direction)
 
 pub returns : goal.returns
 unfolding byte_of
-returns c = rw c.bit-bit.ensures
+returns c = rw c.bit.ensures

@@ -3,10 +3,10 @@ use Rattle.address.specs.Number.{direction_of}
 use Rattle.notation.proofs.Cases.{cases}
 use Rattle.address.proofs.number.AddressByte.direction.Goals as goal
 
-pub returns-then-read : goal.returns-then-read
+pub returns-then-self-eq1 : goal.returns-then-self-eq1
 unfolding direction_of
-returns-then-read c = search cases
+returns-then-self-eq1 c = search cases
 
-pub returns-else-read : goal.returns-else-read
+pub returns-else-self-eq1 : goal.returns-else-self-eq1
 unfolding direction_of
-returns-else-read c = search cases
+returns-else-self-eq1 c = search cases

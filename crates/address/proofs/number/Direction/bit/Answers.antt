@@ -1,11 +1,16 @@
--- `bit` is `bit_of`: what is known at each return settles the tests of the definition.
+-- `bit` is `bit_of`: a direction's number is its R.
+use denote.Enum.Declared.{tag_of}
+use mathlib.Core.Path.{◌≡◌, refl}
 use Rattle.address.specs.Number.{bit_of}
+use Rattle.address.specs.contracts.number.Direction.{the_type}
+use Rattle.address.specs.declared.number.Direction.TheVariants.{Write, Read}
+use Rattle.address.specs.declared.number.Direction.{Direction}
 use Rattle.address.proofs.number.Direction.bit.Goals as goal
 
-pub returns-in-Write : goal.returns-in-Write
+tag-bit : (d : Direction) → tag_of the_type d ≡ bit_of d
 unfolding bit_of
-returns-in-Write c = rw c.in-Write.is
+tag-bit Write = refl
+tag-bit Read = refl
 
-pub returns-in-Read : goal.returns-in-Read
-unfolding bit_of
-returns-in-Read c = rw c.in-Read.is
+pub returns : goal.returns
+returns c = tag-bit c.args.self

@@ -1,22 +1,24 @@
 -- `address_lost` is `address_lost`: what is known at each return settles the tests of the definition.
 use mathlib.Core.List.{[], ◌∷◌}
-use mathlib.Core.Path.{◌∙◌}
+use mathlib.Core.Path.{ap, ◌∙◌}
 use Rattle.control.proofs.Turning.{at_turn, at_turns, except}
 use Rattle.control.specs.Turn.{address}
-use Rattle.controller.specs.Condition.{address_lost}
-use Rattle.notation.proofs.Cases.{cases}
+use Rattle.address.specs.declared.matching.AddressMatch.{AddressMatch}
+use Rattle.controller.proofs.Outcomes.{outcomes}
+use Rattle.controller.specs.Condition.{outbid, address_lost}
 use borrow.Enum.Refused.{opened}
 use Rattle.controller.proofs.record.Controller.address_lost.Goals as goal
 
-pub returns-then-byte-buffer : goal.returns-then-byte-buffer
+pub returns-in-Address : goal.returns-in-Address
 unfolding address_lost
-returns-then-byte-buffer c =
-    c.outbid.ensures ∙ rw c.match_byte.ensures (search (at_turn address c.args.self.turn c.in-Address.in-Address-own.keys1, cases))
-
-pub returns-else-byte-buffer : goal.returns-else-byte-buffer
-unfolding address_lost
-returns-else-byte-buffer c = search (at_turn address c.args.self.turn c.in-Address.in-Address-own.keys1, cases)
+returns-in-Address c =
+    let found = ap (λ (m : AddressMatch). outbid c.args.self.now m.call) c.match_on_bus.ensures in
+    search (c.outbid.ensures ∙ found, at_turn address c.args.self.now.turn c.in-Address.in-Address-own.keys1, outcomes)
 
 pub returns-in_default : goal.returns-in_default
 unfolding address_lost
-returns-in_default c = search (at_turns (except (address ∷ [])) c.args.self.turn (opened c.in_default.in_default-own.keys2), cases)
+returns-in_default c = search (at_turn address c.args.self.now.turn c.in-Address.in-Address-own.keys1, outcomes)
+
+pub returns-in_default-2 : goal.returns-in_default-2
+unfolding address_lost
+returns-in_default-2 c = search (at_turns (except (address ∷ [])) c.args.self.now.turn (opened c.in_default.in_default-own.keys2), outcomes)

@@ -7,32 +7,32 @@ use Rattle.controller.proofs.record.Controller.at_pointer.Goals as goal
 
 pub returns-in-0 : goal.returns-in-0
 unfolding at_pointer
-returns-in-0 c = search (key_is 0 c.args.self.pointer c.in-0.is, cases)
+returns-in-0 c = search (key_is 0 c.args.self.now.pointer c.in-0.is, cases)
 
 pub returns-in-1 : goal.returns-in-1
 unfolding at_pointer
-returns-in-1 c = search (key_is 1 c.args.self.pointer c.in-1.is, cases)
+returns-in-1 c = search (key_is 1 c.args.self.now.pointer c.in-1.is, cases)
 
 pub returns-in-2 : goal.returns-in-2
 unfolding at_pointer
-returns-in-2 c = search (key_is 2 c.args.self.pointer c.in-2.is, cases)
+returns-in-2 c = search (key_is 2 c.args.self.now.pointer c.in-2.is, cases)
 
 pub returns-in-3 : goal.returns-in-3
 unfolding at_pointer
-returns-in-3 c = search (key_is 3 c.args.self.pointer c.in-3.is, cases)
+returns-in-3 c = search (key_is 3 c.args.self.now.pointer c.in-3.is, cases)
 
 pub returns-in-4 : goal.returns-in-4
 unfolding at_pointer
-returns-in-4 c = search (key_is 4 c.args.self.pointer c.in-4.is, cases)
+returns-in-4 c = search (key_is 4 c.args.self.now.pointer c.in-4.is, cases)
 
 pub returns-in-6 : goal.returns-in-6
 unfolding at_pointer
-returns-in-6 c = search (key_is 6 c.args.self.pointer c.in-6.is, cases)
+returns-in-6 c = search (key_is 6 c.args.self.now.pointer c.in-6.is, cases)
 
 pub returns-in_default : goal.returns-in_default
 unfolding at_pointer
 returns-in_default c =
-    let pointer = c.args.self.pointer in
+    let pointer = c.args.self.now.pointer in
     let rest = c.in_default.in_default-own.rest in
     search (
       ne_eqb pointer 6 rest.1,

@@ -4,10 +4,10 @@ use Rattle.controller.specs.Access.{bars_read}
 use Rattle.notation.proofs.Cases.{cases}
 use Rattle.controller.proofs.record.Controller.bars_read.Goals as goal
 
-pub returns-then-wire : goal.returns-then-wire
+pub returns-then-on_wire : goal.returns-then-on_wire
 unfolding bars_read
-returns-then-wire c = search (sym c.on_wire-wire.ensures ∙ c.if-wire.true, cases)
+returns-then-on_wire c = search (sym c.on_wire.ensures ∙ c.if-on_wire.true, cases)
 
-pub returns-else-wire : goal.returns-else-wire
+pub returns-else-on_wire : goal.returns-else-on_wire
 unfolding bars_read
-returns-else-wire c = search (sym c.on_wire-wire.ensures ∙ c.if-wire.false, cases)
+returns-else-on_wire c = search (sym c.on_wire.ensures ∙ c.if-on_wire.false, cases)

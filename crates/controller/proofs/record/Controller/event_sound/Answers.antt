@@ -1,8 +1,8 @@
 -- `event_sound` is `event_sound`: what is known at each return settles the tests of the definition.
 use mathlib.Core.Path.{◌∙◌}
 use borrow.Author.Tests.{ne_eqb}
+use Rattle.controller.proofs.Outcomes.{outcomes}
 use Rattle.controller.specs.Event.{event_sound}
-use Rattle.notation.proofs.Cases.{cases}
 use Rattle.notation.specs.Choice.{when◌then◌else◌}
 use Rattle.controller.proofs.record.Controller.event_sound.Goals as goal
 
@@ -77,5 +77,5 @@ returns-in_default c =
       ne_eqb number 3 rest.0.0.0.0.0.0.0.0.0.0.1,
       ne_eqb number 2 rest.0.0.0.0.0.0.0.0.0.0.0.1,
       ne_eqb number 1 rest.0.0.0.0.0.0.0.0.0.0.0.0.1,
-      cases,
+      outcomes,
     )

@@ -3,10 +3,10 @@ use Rattle.controller.specs.Access.{indirect_at}
 use Rattle.notation.proofs.Cases.{cases}
 use Rattle.controller.proofs.record.Controller.is_indirect_at.Goals as goal
 
-pub returns-then-indirect : goal.returns-then-indirect
+pub returns-then-register-eq2 : goal.returns-then-register-eq2
 unfolding indirect_at
-returns-then-indirect c = search cases
+returns-then-register-eq2 c = search cases
 
-pub returns-else-indirect : goal.returns-else-indirect
+pub returns-else-register-eq2 : goal.returns-else-register-eq2
 unfolding indirect_at
-returns-else-indirect c = search cases
+returns-else-register-eq2 c = search cases

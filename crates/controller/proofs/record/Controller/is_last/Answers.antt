@@ -3,10 +3,10 @@ use Rattle.controller.specs.Transfer.{is_last}
 use Rattle.notation.proofs.Cases.{cases}
 use Rattle.controller.proofs.record.Controller.is_last.Goals as goal
 
-pub returns-then-self : goal.returns-then-self
+pub returns-then-not-self : goal.returns-then-not-self
 unfolding is_last
-returns-then-self c = search cases
+returns-then-not-self c = search cases
 
-pub returns-else-self : goal.returns-else-self
+pub returns-else-not-self : goal.returns-else-not-self
 unfolding is_last
-returns-else-self c = search cases
+returns-else-not-self c = search cases

@@ -4,18 +4,18 @@ use Rattle.controller.specs.Record.{move_sound}
 use Rattle.notation.proofs.Cases.{cases}
 use Rattle.controller.proofs.record.Controller.move_is_sound.Goals as goal
 
-pub returns-then-inside : goal.returns-then-inside
+pub returns-then-not-moves_data : goal.returns-then-not-moves_data
 unfolding move_sound
-returns-then-inside c = search (sym c.moves_data.ensures ∙ c.if-moves_data.true, cases)
+returns-then-not-moves_data c = search (sym c.moves_data.ensures ∙ c.if-not-moves_data.true, cases)
 
-pub returns-else-inside : goal.returns-else-inside
+pub returns-then-not-self : goal.returns-then-not-self
 unfolding move_sound
-returns-else-inside c = search (sym c.moves_data.ensures ∙ c.if-moves_data.true, cases)
+returns-then-not-self c = search (sym c.moves_data.ensures ∙ c.if-not-moves_data.false, cases)
 
-pub returns-else-self : goal.returns-else-self
+pub returns-then-self-count : goal.returns-then-self-count
 unfolding move_sound
-returns-else-self c = search (sym c.moves_data.ensures ∙ c.if-moves_data.true, cases)
+returns-then-self-count c = search (sym c.moves_data.ensures ∙ c.if-not-moves_data.false, cases)
 
-pub returns-else-moves_data : goal.returns-else-moves_data
+pub returns-else-self-count : goal.returns-else-self-count
 unfolding move_sound
-returns-else-moves_data c = search (sym c.moves_data.ensures ∙ c.if-moves_data.false, cases)
+returns-else-self-count c = search (sym c.moves_data.ensures ∙ c.if-not-moves_data.false, cases)

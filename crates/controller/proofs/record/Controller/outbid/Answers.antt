@@ -1,5 +1,6 @@
 -- `outbid` is `outbid`: what is known at each return settles the tests of the definition.
-use mathlib.Core.Path.{◌∙◌}
+use mathlib.Core.Path.{◌≡◌, ◌∙◌}
+use Rattle.address.specs.declared.number.Direction.TheVariants.{Write, Read}
 use Rattle.controller.specs.Condition.{outbid}
 use Rattle.controller.proofs.record.Controller.outbid.Goals as goal
 
@@ -7,13 +8,17 @@ pub returns-in-General : goal.returns-in-General
 unfolding outbid
 returns-in-General c = c.give.ensures ∙ rw c.in-General.is
 
-pub returns-in-Write : goal.returns-in-Write
+pub returns-in-Own-Write : goal.returns-in-Own-Write
 unfolding outbid
-returns-in-Write c = c.give-in-Write.ensures ∙ rw (c.in-Own.is, c.in-Write.is)
+returns-in-Own-Write c =
+    let e : c.in-Own-Write.field-0 ≡ Write = rw c.in-Own-Write.is at c.in-Own-Write.field-0-is in
+    c.give-in-Own-Write.ensures ∙ rw c.in-Own-Write.is (rw e)
 
-pub returns-in-Read : goal.returns-in-Read
+pub returns-in-Own-Read : goal.returns-in-Own-Read
 unfolding outbid
-returns-in-Read c = c.give-in-Read.ensures ∙ rw (c.in-Own.is, c.in-Read.is)
+returns-in-Own-Read c =
+    let e : c.in-Own-Read.field-0 ≡ Read = rw c.in-Own-Read.is at c.in-Own-Read.field-0-is in
+    c.give-in-Own-Read.ensures ∙ rw c.in-Own-Read.is (rw e)
 
 pub returns-in-Nothing : goal.returns-in-Nothing
 unfolding outbid

@@ -2,23 +2,23 @@
 use mathlib.Core.List.{[], ◌∷◌}
 use Rattle.control.proofs.Turning.{at_turn, at_turns, except}
 use Rattle.control.specs.Turn.{free, restarting}
+use Rattle.controller.proofs.Outcomes.{outcomes}
 use Rattle.controller.specs.Condition.{own_start}
-use Rattle.notation.proofs.Cases.{cases}
 use borrow.Enum.Refused.{opened}
 use Rattle.controller.proofs.record.Controller.own_start.Goals as goal
 
-pub returns-then-self : goal.returns-then-self
+pub returns-in-Free : goal.returns-in-Free
 unfolding own_start
-returns-then-self c = search (at_turn free c.args.self.turn c.in-Free.in-Free-own.keys1, cases)
-
-pub returns-else-self : goal.returns-else-self
-unfolding own_start
-returns-else-self c = search (at_turn free c.args.self.turn c.in-Free.in-Free-own.keys1, cases)
+returns-in-Free c = search (at_turn free c.args.self.now.turn c.in-Free.in-Free-own.keys1, outcomes)
 
 pub returns-in-Restarting : goal.returns-in-Restarting
 unfolding own_start
-returns-in-Restarting c = search (at_turn restarting c.args.self.turn c.in-Restarting.in-Restarting-own.keys2, cases)
+returns-in-Restarting c = search (at_turn restarting c.args.self.now.turn c.in-Restarting.in-Restarting-own.keys2, outcomes)
 
 pub returns-in_default : goal.returns-in_default
 unfolding own_start
-returns-in_default c = search (at_turns (except (free ∷ restarting ∷ [])) c.args.self.turn (opened c.in_default.in_default-own.keys3), cases)
+returns-in_default c = search (at_turn free c.args.self.now.turn c.in-Free.in-Free-own.keys1, outcomes)
+
+pub returns-in_default-2 : goal.returns-in_default-2
+unfolding own_start
+returns-in_default-2 c = search (at_turns (except (free ∷ restarting ∷ [])) c.args.self.now.turn (opened c.in_default.in_default-own.keys3), outcomes)

@@ -1,13 +1,14 @@
 -- `write_at_pointer` is `write_at_pointer`: what is known at each return settles the tests of the definition.
-use Rattle.controller.specs.Effect.{after_write}
-use Rattle.controller.specs.Registers.{write_at_pointer}
+use Rattle.answer.specs.Refusal.{refusal_of, value_of}
+use Rattle.controller.specs.Registers.{wrote, write_at_pointer}
+use Rattle.controller.specs.Reply.{outcome, accepts}
 use Rattle.notation.proofs.Cases.{cases}
 use Rattle.controller.proofs.record.Controller.write_at_pointer.Goals as goal
 
-pub returns-then-preset : goal.returns-then-preset
+pub returns-then-self-eq5 : goal.returns-then-self-eq5
 unfolding write_at_pointer
-returns-then-preset c = search cases
+returns-then-self-eq5 c = search cases
 
 pub returns : goal.returns
-unfolding write_at_pointer after_write
-returns c = search cases
+unfolding write_at_pointer wrote outcome refusal_of value_of accepts
+returns c = rw c.store.ensures (search cases)

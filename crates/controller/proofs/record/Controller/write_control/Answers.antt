@@ -5,4 +5,4 @@ use Rattle.controller.proofs.record.Controller.write_control.Goals as goal
 
 pub returns : goal.returns
 unfolding write_control
-returns c = c.write_flags.ensures ∙ rw c.of_byte.ensures
+returns c = c.write_flags.ensures ∙ rw c.from.ensures

@@ -12,11 +12,10 @@ use Rattle.port.proofs.stand.Stand.ask_address.Goals as goal
 
 pub returns-then-first : goal.returns-then-first
 unfolding nth ask_for
-returns-then-first c =
-    rw (eqb-true c.args.self.made 0 c.if-first.true-raw, c.byte-byte.ensures)
+returns-then-first c = rw (eqb-true c.args.self.made 0 c.if-first.true-raw, c.byte.ensures)
 
-pub returns : goal.returns
+pub returns-else-first : goal.returns-else-first
 unfolding ask_for
-returns c =
+returns-else-first c =
     let s = c.args.self in
     sym (ap ask_for (nth_last (writes 1 (byte_of s.job.address s.job.direction).0 ∷ []) (writes 3 0x40) s.made (omega (arith, eqb-false))))

@@ -7,17 +7,17 @@ use Rattle.port.specs.InHand.{reads_from}
 use Rattle.service.specs.Act.{writes, reads_count, read_times}
 use Rattle.port.proofs.stand.Stand.ask_back.Goals as goal
 
-pub returns-then-self-times : goal.returns-then-self-times
+pub returns-then-self-reads : goal.returns-then-self-reads
 unfolding ask_for
-returns-then-self-times c =
+returns-then-self-reads c =
     let s = c.args.self in
     let all = read_times s.job.n in
     sym (ap ask_for (nth-before (reads_from all 0) (writes 3 0x50) reads_count s.made (omega (arith, length-reads all 0))
     ∙ read_at all 0 s.made reads_count (omega arith)))
 
-pub returns : goal.returns
+pub returns-else-self-reads : goal.returns-else-self-reads
 unfolding ask_for
-returns c =
+returns-else-self-reads c =
     let s = c.args.self in
     let all = read_times s.job.n in
     sym (ap ask_for (nth_last (reads_from all 0) (writes 3 0x50) s.made (omega (arith, length-reads all 0))))

@@ -1,6 +1,7 @@
 -- `ask_recovery` asks for one of the three writes of the reset by computation, and else for what `ask_setting` does, three places earlier.
+use mathlib.Core.List.{[], ◌∷◌, ◌++◌}
 use mathlib.Core.Path.{◌≡◌, ap, sym, ◌∙◌}
-use Prim.Native.Nat.{suc, ◌-◌}
+use Prim.Native.Nat.{ℕ, suc, ◌-◌}
 use native.Mathlib.Omega.{arith}
 use lib.ListN.{take}
 use Rattle.port.proofs.Nth.{at_head, in_tail}
@@ -31,4 +32,5 @@ returns-in_default c =
     let made = args.self.made in
     let e : made ≡ suc (suc (suc (made - 3))) = omega arith in
     c.ask_setting.ensures
+    ∙ ap (λ (k : ℕ). ask_for (nth (alternates 0 2 settings ++ (writes 3 0x40 ∷ [])) (k - 3))) c.from.ensures
     ∙ sym (ap ask_for (ap (nth (recovers settings)) e ∙ in_tail (writes 2 0x5A) (alternates 0 2 settings) (writes 3 0x40) (made - 3)))

@@ -3,7 +3,7 @@ use mathlib.Core.List.{List, [], ◌∷◌}
 use mathlib.Core.Logic.{inl, inr}
 use mathlib.Core.Path.{◌≡◌, refl, ap, sym}
 use Prim.Native.Nat.{ℕ}
-use borrow.Author.Tests.{eqb-true, ne_eqb}
+use borrow.Author.Tests.{ne_eqb}
 use lib.ListN.{take}
 use Rattle.answer.specs.declared.ending.Ending.TheVariants.{Fault}
 use Rattle.control.specs.Turn.{faults}
@@ -20,16 +20,16 @@ use Rattle.service.specs.JobSteps.{go_on_after, end_after}
 use Rattle.service.specs.JobTable.{job_table}
 use Rattle.port.proofs.stand.Stand.ask_work.Goals as goal
 
-pub returns-then-reading : goal.returns-then-reading
+pub returns-then-self-eq88 : goal.returns-then-self-eq88
 unfolding job_table among when◌then◌else◌ accesses
-returns-then-reading c = rw (c.ask_back.ensures, eqb-true c.args.self.status 0x58 c.if-reading.true-raw)
+returns-then-self-eq88 c = rw (c.ask_back.ensures, c.if-self-eq88.true)
 
-pub returns-then-sending : goal.returns-then-sending
+pub returns-then-self-eq24 : goal.returns-then-self-eq24
 unfolding job_table among when◌then◌else◌ accesses
-returns-then-sending c =
+returns-then-self-eq24 c =
     let args = c.args in
     let s = args.self in
-    rw (c.ask_data.ensures, eqb-true s.status 0x18 c.if-sending.true-raw)
+    rw (c.ask_data.ensures, c.if-self-eq24.true)
     (sym (ap (λ (l : List Act). ask_for (nth l s.made)) (data_accesses s.count (take s.job.n args.payload.now) (writes 3 0x41 ∷ []))))
 
 pub returns-in-8 : goal.returns-in-8
@@ -65,12 +65,12 @@ returns-in_default c =
     let stops = rest.0.0.1 in
     rw (
       ne_eqb status 0x08 rest.0.0.0.0.1,
-      c.if-sending.false-raw,
+      ne_eqb status 0x18 c.if-self-eq24.false,
       ne_eqb status 0x40 rest.0.0.0.1,
       without status (0x20 ∷ 0x48 ∷ []) (0x20 ∷ 0x28 ∷ 0x48 ∷ []) tt (none_of (0x20 ∷ 0x28 ∷ 0x48 ∷ []) status stops),
       ne_eqb status 0x28 (λ e. stops (inr (inl e))),
       ne_eqb status 0x30 rest.0.1,
-      c.if-reading.false-raw,
+      ne_eqb status 0x58 c.if-self-eq88.false,
       ne_eqb status 0x38 rest.1,
     )
     (split (λ (w : Work). Wait ≡ ask_for (nth (accesses s.count w.acts) s.made)) (among status faults) (end_after [] Fault) (go_on_after [])

@@ -23,4 +23,4 @@ pub returns : goal.returns
 unfolding recover_of
 returns c =
     c.begin.ensures
-    ∙ rw c.no_job-job.ensures (search (sym c.is_bad.ensures ∙ c.if-is_bad.false, cases))
+    ∙ rw c.no_job.ensures (search (sym c.is_bad.ensures ∙ c.if-is_bad.false, cases))

@@ -2,7 +2,7 @@
 use mathlib.Core.Bool.{false≢true}
 use mathlib.Core.Path.{◌≡◌, refl, sym, ◌∙◌}
 use Prim.Native.Nat.{ℕ, zero, suc}
-use borrow.Author.Tests.{eqb-true, eqb-false}
+use borrow.Author.Tests.{eqb-true, eqb-false, ne_eqb}
 use Rattle.answer.specs.declared.ending.Ending.TheVariants.{DataNacked}
 use Rattle.notation.specs.Choice.{when◌then◌else◌, among}
 use Rattle.port.proofs.Totals.{nth-all, line-all}
@@ -11,6 +11,7 @@ use Rattle.service.specs.Act.{Act}
 use Rattle.service.specs.JobSteps.{finds_moved, stop_after}
 use Rattle.service.specs.JobTable.{job_table}
 use Rattle.port.proofs.stand.Stand.note_count.Goals as goal
+use Rattle.port.proofs.stand.Stand.note_count.Goals.{else-self-eq48-via-then-self-eq48+else-second, else-self-eq48-via-else-self-eq48}
 
 abbrev Keeps : ℕ → ℕ → Act → Type 0
 Keeps count value x = count_after x count value ≡ count
@@ -25,23 +26,17 @@ other (suc (suc (suc made))) count value h = refl
 
 pub returns-then-second : goal.returns-then-second
 unfolding job_table among when◌then◌else◌ accesses nth count_after
-returns-then-second c payload =
-    let s = c.args in
-    rw (eqb-true s.self.status 0x30 c.if-moved.true-raw, eqb-true s.self.made 1 c.if-second.true-raw)
+returns-then-second c payload = rw (c.if-self-eq48.true, eqb-true c.args.self.made 1 c.if-second.true-raw)
 
-pub returns-else-second : goal.returns-else-second
-unfolding job_table among when◌then◌else◌ accesses
-returns-else-second c payload =
+pub returns-else-self-eq48 : goal.returns-else-self-eq48
+unfolding job_table among when◌then◌else◌ accesses count_after
+returns-else-self-eq48 c payload =
     let s = c.args in
-    let kept = other s.self.made s.self.count s.value (eqb-false s.self.made 1 c.if-second.false-raw) in
-    rw (eqb-true s.self.status 0x30 c.if-moved.true-raw, kept)
-
-pub returns-else-moved : goal.returns-else-moved
-unfolding count_after
-returns-else-moved c payload =
-    let s = c.args in
-    let keeps = Keeps s.self.count s.value in
-    let all =
-    line-all keeps s.self.job payload s.self.status s.self.count (λ _ _. refl)
-    (λ at30. absurd (false≢true (sym c.if-moved.false-raw ∙ at30))) (λ _ _. refl) in
-    sym (nth-all keeps _ s.self.made refl all)
+    elim c.else-self-eq48.branch [
+      | else-self-eq48-via-then-self-eq48+else-second w ↦
+          rw (w.if-self-eq48.true, other s.self.made s.self.count s.value (eqb-false s.self.made 1 w.if-second.false-raw))
+      | else-self-eq48-via-else-self-eq48 w ↦
+          sym (nth-all (Keeps s.self.count s.value) _ s.self.made refl
+          (line-all (Keeps s.self.count s.value) s.self.job payload s.self.status s.self.count (λ _ _. refl)
+          (λ at30. absurd (false≢true (sym (ne_eqb s.self.status 0x30 w.if-self-eq48.false) ∙ at30))) (λ _ _. refl)))
+    ]

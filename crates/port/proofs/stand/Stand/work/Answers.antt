@@ -2,7 +2,7 @@
 use mathlib.Core.List.{List}
 use mathlib.Core.Path.{◌≡◌, sym, ap, ◌∙◌}
 use Prim.Native.Nat.{ℕ, ◌+◌}
-use borrow.Author.Tests.{ltb-true}
+use borrow.Author.Tests.{lt-ltb, le-ltb}
 use native.Mathlib.Omega.{arith}
 use lib.Dec.{ltb}
 use lib.ListN.{length}
@@ -15,7 +15,6 @@ use Rattle.port.specs.Stand.{with_count}
 use Rattle.port.specs.declared.stage.Stage.TheVariants.{Working}
 use Rattle.port.specs.declared.stand.Stand.{Stand}
 use Rattle.service.specs.Act.{Act}
-use Rattle.service.specs.JobTable.{job_table}
 use Rattle.port.proofs.stand.Stand.work.Goals as goal
 
 abbrev of_line : Stand → List ℕ → List Act
@@ -35,29 +34,23 @@ next_of-requires c =
     let args = c.args in
     let s = args.self in
     let fits = line-fits s.job args.payload.now s.status s.count c.requires.0 in
-    let made = ap (λ (t : Stand). t.made) c.with_count-noted.ensures in
-    let total = c.work_total-total.ensures in
-    (omega (arith, ltb-true, made, total), omega (arith, fits, total))
+    (omega arith, omega arith)
 
-pub returns-then-more : goal.returns-then-more
-returns-then-more c =
+pub returns-then-from-total : goal.returns-then-from-total
+returns-then-from-total c =
     let args = c.args in
     let s = args.self in
     let xs = args.payload.now in
     c.next_of.ensures
-    ∙ ap (λ (t : Stand). next_of t c.work_total-total.result)
-    (c.with_count-noted.ensures ∙ ap (with_count s) (c.note_count.ensures xs))
+    ∙ ap (λ (k : ℕ). next_of (with_count s k) c.work_total-total.result) (c.note_count.ensures xs)
     ∙ ap (λ (total : ℕ). next_of (noted s xs args.value) total) c.work_total-total.ensures
-    ∙ sym (worked s xs args.value c.requires.1
-    ∙ when-true _ _ _ (rw c.work_total-total.ensures at c.if-more.true-raw))
+    ∙ sym (worked s xs args.value c.requires.1 ∙ when-true _ _ _ (lt-ltb _ _ (omega arith)))
 
-pub returns : goal.returns
-returns c =
+pub returns-else-from-total : goal.returns-else-from-total
+returns-else-from-total c =
     let args = c.args in
     let s = args.self in
     let xs = args.payload.now in
     c.conclude.ensures xs s.count
-    ∙ ap (λ (t : Stand). concludes (job_table t.job xs t.status s.count).after t)
-    (c.with_count-noted.ensures ∙ ap (with_count s) (c.note_count.ensures xs))
-    ∙ sym (worked s xs args.value c.requires.1
-    ∙ when-false _ _ _ (rw c.work_total-total.ensures at c.if-more.false-raw))
+    ∙ ap (λ (k : ℕ). concludes (line s xs).after (with_count s k)) (c.note_count.ensures xs)
+    ∙ sym (worked s xs args.value c.requires.1 ∙ when-false _ _ _ (le-ltb _ _ (omega arith)))

@@ -3,15 +3,14 @@ use mathlib.Core.List.{List, [], ◌∷◌}
 use mathlib.Core.Logic.{inl, inr}
 use mathlib.Core.Path.{◌≡◌, refl, sym}
 use Prim.Native.Nat.{ℕ}
-use native.Mathlib.Omega.{arith}
-use borrow.Author.Tests.{eqb-true, ne_eqb}
-use lib.ListN.{length, length-append}
+use borrow.Author.Tests.{ne_eqb}
+use lib.ListN.{length, length-append, length-take}
 use Rattle.answer.specs.declared.ending.Ending.TheVariants.{Fault}
 use Rattle.control.specs.Turn.{faults}
 use Rattle.notation.proofs.Among.{none_of, without}
 use Rattle.notation.proofs.Cases.{split}
 use Rattle.notation.specs.Choice.{when◌then◌else◌, among}
-use Rattle.port.proofs.Totals.{at_each, length-reads, least_fits, times_fit, data_total}
+use Rattle.port.proofs.Totals.{at_each, length-reads, data_total}
 use Rattle.port.specs.InHand.{accesses}
 use Rattle.service.specs.Act.{Work}
 use Rattle.service.specs.JobSteps.{go_on_after, end_after}
@@ -21,24 +20,17 @@ use Rattle.port.proofs.stand.Stand.work_total.Goals as goal
 abbrev single : List ℕ
 single = 0x20 ∷ 0x28 ∷ 0x38 ∷ 0x40 ∷ 0x48 ∷ []
 
-pub overflow_add-result : goal.overflow_add-result
-overflow_add-result c = omega (arith, c.times.ensures, times_fit c.args.self.job.n)
-
-pub returns-then-reading : goal.returns-then-reading
+pub returns-then-self-eq88 : goal.returns-then-self-eq88
 unfolding job_table among when◌then◌else◌ accesses
-returns-then-reading c =
+returns-then-self-eq88 c =
     let s = c.args.self in
-    rw (eqb-true s.status 0x58 c.if-reading.true-raw, length-append, length-reads, c.times.ensures)
+    rw (c.if-self-eq88.true, length-append, length-reads, c.from.ensures, c.reads.ensures)
 
-pub overflow_add-result-then-sending : goal.overflow_add-result-then-sending
-overflow_add-result-then-sending c =
-    omega (arith, c.least.ensures, least_fits c.args.self.job.n (length c.args.payload.now), c.well_formed)
-
-pub returns-then-sending : goal.returns-then-sending
+pub returns-then-self-eq24 : goal.returns-then-self-eq24
 unfolding job_table among when◌then◌else◌ accesses
-returns-then-sending c =
+returns-then-self-eq24 c =
     let s = c.args in
-    rw (eqb-true s.self.status 0x18 c.if-sending.true-raw, c.least.ensures)
+    rw (c.if-self-eq24.true, c.bytes.ensures, length-take)
     (sym (data_total s.self.count s.self.job.n s.payload.now))
 
 pub returns-in-8 : goal.returns-in-8
@@ -65,11 +57,11 @@ returns-in_default c =
     let several = rest.0.1 in
     rw (
       ne_eqb status 0x08 rest.0.0.1,
-      c.if-sending.false-raw,
+      ne_eqb status 0x18 c.if-self-eq24.false,
       ne_eqb status 0x40 (λ e. several (inr (inr (inr (inl e))))),
       without status (0x20 ∷ 0x48 ∷ []) single tt (none_of single status several),
       ne_eqb status 0x28 (λ e. several (inr (inl e))),
       ne_eqb status 0x30 rest.1,
-      c.if-reading.false-raw,
+      ne_eqb status 0x58 c.if-self-eq88.false,
       ne_eqb status 0x38 (λ e. several (inr (inr (inl e)))),
     ) (split (λ (w : Work). 0 ≡ length (accesses s.self.count w.acts)) (among status faults) (end_after [] Fault) (go_on_after []) (λ _. refl) (λ _. refl))

@@ -1,8 +1,0 @@
--- `of_byte` is `flags_of`: what is known at each return settles the tests of the definition.
-use Rattle.control.specs.Flags.{flags_of}
-use Rattle.notation.proofs.Cases.{cases}
-use Rattle.control.proofs.flags.Control.of_byte.Goals as goal
-
-pub returns : goal.returns
-unfolding flags_of
-returns c = search cases

@@ -1,9 +1,0 @@
--- `accepted` is `accepts`: what is known at each return settles the tests of the definition.
-use mathlib.Core.Path.{refl}
-use Rattle.answer.specs.Refusal.{refusal_of, value_of}
-use Rattle.controller.specs.Reply.{outcome_of, accepts}
-use Rattle.controller.proofs.record.Controller.accepted.Goals as goal
-
-pub returns : goal.returns
-unfolding outcome_of refusal_of value_of accepts
-returns c = refl
