@@ -7,10 +7,10 @@ ghost use Rattle.notation.specs.Overlay.{laid};
 ghost use Rattle.dock.specs.Calls.{not_done, job_asked, start_call, recover_call, next_call, give_up_call, take_call};
 ghost use Rattle.port.specs.Port.{kept_data};
 
+use crate::layout::{FETCHED, SIZE};
 use crate::memory::put_padded;
 use crate::state::{
-    FETCHED, SIZE, begin, fetched, is_marked, keep, load, load_marked, payload, store, tell,
-    tell_first,
+    begin, fetched, is_marked, keep, load, load_marked, payload, store, tell, tell_first,
 };
 use address::number::Direction;
 use answer::ending::Ending;

@@ -2,5 +2,6 @@
 #![tactic(auto)]
 
 pub mod entry;
+mod layout;
 mod memory;
 mod state;

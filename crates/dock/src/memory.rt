@@ -3,7 +3,7 @@ ghost use Rattle.std.specs.Prelude.{◌≡◌, ◌+◌, ◌≤◌, get_or};
 ghost use Rattle.notation.specs.Overlay.{laid_at};
 ghost use Rattle.port.specs.Port.{padded};
 
-use crate::state::{PLACES, State};
+use crate::layout::{PLACES, State};
 
 // 68 from this place on: the bytes, and zeros after them. (No `copy_from_slice` and `fill`: they would call memmove and memset, and
 // include/perlovasta_dock.h promises that the library calls nothing outside itself.)

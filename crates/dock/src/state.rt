@@ -6,22 +6,12 @@ ghost use Rattle.port.specs.Hear.{place_number, asks, first_ask};
 ghost use Rattle.port.specs.Port.{padded};
 ghost use Rattle.dock.specs.StateBytes.{head_bytes, bytes_of, marked, stand_of};
 
+use crate::layout::{FETCHED, HEAD, PLACES, State};
 use crate::memory::put_padded;
 use answer::ending::Ending;
 use port::stage::Stage;
 use port::stand::Stand;
 use requests::jobs::job_for;
-
-// What stands where in a state (specs/StateBytes.antt): the head, data from HEAD on, bytes read back from FETCHED on, PLACES of each.
-pub(crate) const HEAD: usize = 12;
-
-pub(crate) const PLACES: usize = 68;
-
-pub(crate) const FETCHED: usize = HEAD + PLACES;
-
-pub(crate) const SIZE: usize = FETCHED + PLACES;
-
-pub(crate) type State = [u8; SIZE];
 
 // The mark.
 #[tactic(auto, unfolding(crate::specs::StateBytes::marked), using(notation::proofs::Cases::cases))]
