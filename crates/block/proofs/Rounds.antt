@@ -8,8 +8,8 @@ use lib.ListN.{length, drop, get_or, set, drop_of_length-le}
 use lib.Seq.{drop-cons}
 use Rattle.controller.specs.Access.{read_of, write_of}
 use Rattle.controller.specs.declared.record.Controller.{Controller}
-use Rattle.block.specs.Block.{written, after_reads, values_read}
-use Rattle.block.proofs.DataAccess.{Gives}
+use Rattle.block.specs.Block.{reach_of, written, after_reads, values_read}
+use Rattle.block.proofs.DataAccess.{Gives, write-outside}
 use Rattle.notation.proofs.Overlay.{one_more, past_end}
 use Rattle.notation.specs.Overlay.{laid, laid_at}
 
@@ -22,6 +22,12 @@ write-one xs i c h = ap (λ (l : List ℕ). written l c) (drop-cons xs i 0 h ∙
 pub write_done : (xs : List ℕ) (i : ℕ) (c : Controller) → length xs ≤ i → written (drop i xs) c ≡ c
 unfolding written
 write_done xs i c h = ap (λ (l : List ℕ). written l c) (drop_of_length-le xs h)
+
+-- no place left: all the bytes are refused
+pub write_full : (xs : List ℕ) (c : Controller) → reach_of c ≤ c.hand → written xs c ≡ c
+unfolding written
+write_full [] c h = refl
+write_full (x ∷ xs) c h = ap (written xs) (write-outside c x h).0 ∙ write_full xs c h
 
 -- one of the reads that are left, and none
 pub read_one : (n i : ℕ) (c : Controller) → i < n → after_reads (n - i) c ≡ after_reads (n - (i + 1)) (read_of c 1).next

@@ -4,7 +4,7 @@
 
 ghost use Rattle.std.specs.Prelude.{◌≡◌, length};
 ghost use Rattle.block.specs.Block.{reach_of, written, after_reads, values_read};
-ghost use Rattle.controller.specs.Access.{read_of, write_of};
+ghost use Rattle.controller.specs.Access.{read_of};
 
 use controller::record::Controller;
 
@@ -19,27 +19,19 @@ fn reach(c: &Controller) -> u8
     }
 }
 
-// One byte written to I2CDAT, which reaches the places below `end`.
-fn write_byte(c: &mut Controller, end: u8, byte: u8)
-    requires { reach_of c.old ≡ end }
-    ensures next { c.new ≡ (write_of c.old 1 byte).next }
-    ensures reach { reach_of c.new ≡ end }
-{
-    if end <= c.hand {
-        return;
-    }
-    c.buffer[c.hand as usize] = byte;
-    c.hand += 1;
-    c.armed = false;
-}
-
-// Bytes written to I2CDAT, one after the other.
+// Bytes written to I2CDAT, one after the other: from the first that has no place on, all are refused.
 pub fn write_block(c: &mut Controller, bytes: &[u8])
     ensures { c.new ≡ written bytes.now c.old }
 {
     let end = reach(c);
     for &byte in bytes {
-        write_byte(c, end, byte);
+        let full = end <= c.hand;
+        if full {
+            return;
+        }
+        c.buffer[c.hand as usize] = byte;
+        c.hand += 1;
+        c.armed = false;
     }
 }
 
@@ -50,12 +42,13 @@ fn read_byte(c: &mut Controller, end: u8) -> u8
     ensures value { result ≡ (read_of c.old 1).value }
     ensures reach { reach_of c.new ≡ end }
 {
-    if end <= c.hand {
+    let hand = c.hand;
+    let past = end <= hand;
+    if past {
         return 0;
     }
-    let at = c.hand as usize;
-    c.hand += 1;
-    c.buffer[at]
+    c.hand = hand + 1;
+    c.buffer[hand as usize]
 }
 
 // I2CDAT read once for each place of `bytes`, and what it gave put there.

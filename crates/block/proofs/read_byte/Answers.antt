@@ -6,11 +6,11 @@ use Rattle.block.specs.Block.{reach_of}
 use Rattle.block.proofs.DataAccess.{reach_most, reach_stays, read-inside, read-outside}
 use Rattle.block.proofs.read_byte.Goals as goal
 
-pub bounds-c-at : goal.bounds-c-at
-bounds-c-at c = omega (arith, reach_most c.args.c.now)
+pub bounds-c-hand : goal.bounds-c-hand
+bounds-c-hand c = omega (arith, reach_most c.args.c.now)
 
-pub returns-then-end-c : goal.returns-then-end-c
-returns-then-end-c c =
+pub returns-then-past : goal.returns-then-past
+returns-then-past c =
     let start = c.args.c.now in
     let past : reach_of start ≤ start.hand = omega arith in
     let g = read-outside start past in
