@@ -1,6 +1,8 @@
 // I2CCON written by the table: a second engine beside the controller's own write, with the same promise.
-ghost use Rattle.std.specs.Prelude.{◌≡◌};
+ghost use Rattle.std.specs.Prelude.{◌≡◌, Some};
+ghost use Rattle.control.specs.Writing.{after_edge};
 ghost use Rattle.controller.specs.Access.{write_of};
+ghost use Rattle.controller.specs.I2ccon.{controlled, bad_count, enabled};
 ghost use Rattle.controller.specs.Reply.{outcome, outcome_of};
 ghost use Rattle.responses.specs.Engine.{beside_table, by_entry, disabled};
 
@@ -8,19 +10,67 @@ use crate::entry::Entry;
 use crate::table::entry_at;
 use answer::{Answer, Refusal};
 use control::flags::Control;
-use control::turn::Turn;
-use control::writing::after_edge;
+use control::turn::{Edge, Turn};
 use controller::record::Controller;
 use controller::reply::Reply;
+
+// An accepted write: the flags and the next turn, and hand place and moved count go back to 0. STO is stored only where it leads to Stopping.
+fn accept(c: &mut Controller, k: Control, turn: Turn) -> Answer
+    ensures { outcome c.new result ≡ controlled c.old k turn }
+{
+    let flags = match turn {
+        Turn::Stopping => k,
+        _ => Control {
+            sto: c.control.sto,
+            ..k
+        },
+    };
+    c.control = flags;
+    c.turn = turn;
+    c.hand = 0;
+    c.moved = 0;
+    c.armed = false;
+    Ok(0)
+}
+
+// The write would start a buffered data move, and BC is not 1..68.
+fn has_bad_count(c: &Controller, k: Control, turn: Turn) -> bool
+    ensures { result ≡ bad_count c.now k turn }
+{
+    let count = c.registers.count % 128;
+    let moves = turn.moves_data();
+    k.mode & (moves & ((count == 0) | (68 < count)))
+}
+
+// To the next turn that an entry names, or refusal 6.
+fn lead(c: &mut Controller, k: Control, turn: Turn) -> Answer
+    ensures { outcome c.new result ≡ enabled c.old k (Some turn) }
+{
+    if has_bad_count(c, k, turn) {
+        Err(Refusal::BadCount)
+    } else {
+        accept(c, k, turn)
+    }
+}
+
+// Where a write at A0h leads.
+fn after_edge(edge: Edge) -> Turn
+    ensures { result ≡ after_edge edge }
+{
+    match edge {
+        Edge::Stop => Turn::Free,
+        Edge::Start => Turn::Listen,
+    }
+}
 
 // A0h and F8h, beside the table.
 fn beside(c: &mut Controller, k: Control) -> Answer
     ensures { outcome c.new result ≡ beside_table c.old k }
 {
     match c.turn {
-        Turn::Off => c.accept_control(k, Turn::Free),
-        Turn::Host(_, edge) => c.accept_control(k, after_edge(edge)),
-        Turn::Free | Turn::Busy | Turn::Listen => c.accept_control(k, c.turn),
+        Turn::Off => accept(c, k, Turn::Free),
+        Turn::Host(_, edge) => accept(c, k, after_edge(edge)),
+        Turn::Free | Turn::Busy | Turn::Listen => accept(c, k, c.turn),
         _ => Err(Refusal::OnTheWire),
     }
 }
@@ -34,7 +84,7 @@ fn disable(c: &mut Controller, k: Control) -> Answer
     }
     match c.turn.status() {
         0x00 | 0x70 | 0x78 => Err(Refusal::Locked),
-        _ => c.accept_control(Control { sta: false, ..k }, Turn::Off),
+        _ => accept(c, Control { sta: false, ..k }, Turn::Off),
     }
 }
 
@@ -45,9 +95,9 @@ fn follow(c: &mut Controller, k: Control, entry: Entry) -> Answer
     match entry {
         Entry::Never => Err(Refusal::Unsound),
         Entry::Beside => beside(c, k),
-        Entry::Stays => c.accept_control(k, c.turn),
+        Entry::Stays => accept(c, k, c.turn),
         Entry::Refused(why) => Err(why),
-        Entry::Next(next) => c.enable(k, Some(next)),
+        Entry::Next(next) => lead(c, k, next),
     }
 }
 

@@ -11,15 +11,15 @@ use Rattle.responses.proofs.engine.beside.Goals as goal
 
 pub returns-in-Off : goal.returns-in-Off
 unfolding beside_table
-returns-in-Off c = c.accept_control.ensures ∙ search (at_turn off c.args.c.now.turn c.in-Off.in-Off-own.keys1, outcomes)
+returns-in-Off c = c.accept.ensures ∙ search (at_turn off c.args.c.now.turn c.in-Off.in-Off-own.keys1, outcomes)
 
 pub returns-in-Host : goal.returns-in-Host
 unfolding beside_table kind edge_of among when◌then◌else◌
-returns-in-Host c = c.accept_control-in-Host.ensures ∙ rw (c.after_edge.ensures, c.in-Host.is)
+returns-in-Host c = c.accept-in-Host.ensures ∙ rw (c.after_edge.ensures, c.in-Host.is)
 
 pub returns-in-Free : goal.returns-in-Free
 unfolding beside_table
-returns-in-Free c = c.accept_control-in-Free.ensures ∙ search (at_turns (free ∷ busy ∷ listen ∷ []) c.args.c.now.turn c.in-Free.in-Free-own.keys3, outcomes)
+returns-in-Free c = c.accept-in-Free.ensures ∙ search (at_turns (free ∷ busy ∷ listen ∷ []) c.args.c.now.turn c.in-Free.in-Free-own.keys3, outcomes)
 
 pub returns-in_default : goal.returns-in_default
 unfolding beside_table

@@ -20,4 +20,4 @@ pub returns-in_default : goal.returns-in_default
 unfolding disabled
 returns-in_default c =
     let free = sym c.on_wire.ensures ∙ c.if-on_wire.false in
-    c.accept_control.ensures ∙ rw (← c.status.ensures) (search (none_of faults c.status.result c.in_default.in_default-own.rest.1, free, outcomes))
+    c.accept.ensures ∙ rw (← c.status.ensures) (search (none_of faults c.status.result c.in_default.in_default-own.rest.1, free, outcomes))

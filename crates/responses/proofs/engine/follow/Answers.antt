@@ -14,7 +14,7 @@ returns-in-Beside c = c.beside.ensures ∙ rw c.in-Beside.is
 
 pub returns-in-Stays : goal.returns-in-Stays
 unfolding by_entry
-returns-in-Stays c = c.accept_control.ensures ∙ rw c.in-Stays.is
+returns-in-Stays c = c.accept.ensures ∙ rw c.in-Stays.is
 
 pub returns-in-Refused : goal.returns-in-Refused
 unfolding by_entry
@@ -22,4 +22,4 @@ returns-in-Refused c = rw c.in-Refused.is (refused _ _)
 
 pub returns-in-Next : goal.returns-in-Next
 unfolding by_entry
-returns-in-Next c = c.enable.ensures ∙ rw c.in-Next.is
+returns-in-Next c = c.lead.ensures ∙ rw c.in-Next.is
