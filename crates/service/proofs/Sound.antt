@@ -3,6 +3,7 @@ use mathlib.Core.Bool.{true}
 use mathlib.Core.List.{List, [], ◌∷◌}
 use mathlib.Core.Path.{◌≡◌}
 use Prim.Native.Nat.{ℕ, zero, suc, ◌+◌}
+use Rattle.block.specs.Block.{written}
 use Rattle.controller.specs.Record.{sound}
 use Rattle.controller.specs.declared.record.Controller.{Controller}
 use Rattle.laws.proofs.Soundness.{read-stays-sound, write-stays-sound}
@@ -14,6 +15,11 @@ pub put-sound : (c : Controller) (register value : ℕ) → sound c ≡ true →
 unfolding put
 put-sound c register value s = write-stays-sound c register value s
 
+pub written-sound : (xs : List ℕ) (c : Controller) → sound c ≡ true → sound (written xs c) ≡ true
+unfolding written
+written-sound [] c s = s
+written-sound (x ∷ xs) c s = written-sound xs _ (write-stays-sound c 1 x s)
+
 -- the record held is sound
 abbrev pub KeepsSound : Progress → Type 0
 KeepsSound p = sound p.controller ≡ true
@@ -23,7 +29,7 @@ unfolding fetch fetch_one
 fetch-sound zero i p s = s
 fetch-sound (suc more) i p s = fetch-sound more (i + 1) (fetch_one i p) (read-stays-sound p.controller 1 s)
 
-does-sound : (x : Act) (p : Progress) → KeepsSound p → KeepsSound (does x p)
+pub does-sound : (x : Act) (p : Progress) → KeepsSound p → KeepsSound (does x p)
 unfolding does fetch_one
 does-sound (writes register value) p s = put-sound p.controller register value s
 does-sound (reads_data at) p s = read-stays-sound p.controller 1 s
