@@ -75,6 +75,7 @@ impl Controller {
     }
 
     // A register of a sound record, written.
+    #[tactic(auto, unfolding(crate::specs::Access::write_sound), using(crate::proofs::Outcomes::outcomes, notation::proofs::Cases::by_call))]
     fn write_sound(&mut self, register: u8, value: u8) -> Answer
         requires { sound self.old ≡ true }
         ensures { outcome self.new result ≡ write_sound self.old register value }

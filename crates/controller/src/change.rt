@@ -10,7 +10,7 @@ use control::turn::{Edge, Turn};
 
 impl Controller {
     // A status: Host, and its reason.
-    pub(crate) fn set_status(&mut self, status: u8, edge: Edge)
+    pub fn set_status(&mut self, status: u8, edge: Edge)
         ensures { self.new ≡ with_status self.old status edge }
     {
         self.turn = Turn::Host(status, edge);
@@ -18,7 +18,7 @@ impl Controller {
     }
 
     // A status, and SI becomes 1: the hand place goes back to 0.
-    pub(crate) fn interrupt(&mut self, status: u8, edge: Edge, value: u8) -> Answer
+    pub fn interrupt(&mut self, status: u8, edge: Edge, value: u8) -> Answer
         ensures { outcome self.new result ≡ interrupts_at self.old status edge value }
     {
         self.set_status(status, edge);
@@ -34,7 +34,7 @@ impl Controller {
     }
 
     // The controller waits for something else.
-    pub(crate) fn wait_for(&mut self, turn: Turn, value: u8) -> Answer
+    pub fn wait_for(&mut self, turn: Turn, value: u8) -> Answer
         ensures { outcome self.new result ≡ waits_for self.old turn value }
     {
         self.turn = turn;

@@ -103,11 +103,13 @@ impl Controller {
     pub fn is_sound(&self) -> bool
         ensures { result ≡ sound self.now }
     {
-        self.pointer <= 7
-            && self.hand <= 68
-            && self.moved <= 68
-            && self.registers.speed <= 3
-            && host_is_sound(self.turn)
-            && self.move_is_sound()
+        let in_range = (self.pointer <= 7)
+            & (self.hand <= 68)
+            & (self.moved <= 68)
+            & (self.registers.speed <= 3);
+        if !in_range {
+            return false;
+        }
+        host_is_sound(self.turn) && self.move_is_sound()
     }
 }

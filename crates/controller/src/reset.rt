@@ -47,7 +47,7 @@ impl Controller {
     }
 
     // A reset keeps the buffer.
-    pub(crate) fn reset(&mut self)
+    pub fn reset(&mut self)
         ensures { self.new ≡ reset self.old }
     {
         *self = reset_with(self.buffer, Reason::Reset);

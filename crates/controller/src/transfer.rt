@@ -22,7 +22,7 @@ fn address_status(direction: Direction, argument: u8) -> u8
 
 impl Controller {
     // The place that the next data byte is moved from or to.
-    fn cursor(&self) -> u8
+    pub fn cursor(&self) -> u8
         ensures { result ≡ cursor self.now }
     {
         if self.control.mode { self.moved } else { 0 }
