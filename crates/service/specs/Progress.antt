@@ -33,6 +33,10 @@ with_events p x = progress p.controller p.over p.ending p.count x p.fetched
 abbrev pub with_fetched : Progress → List ℕ → Progress
 with_fetched p x = progress p.controller p.over p.ending p.count p.events x
 
+-- the record and the pairs taken, as they are now
+unfoldable pub reaching : Progress → Controller → ℕ → Progress
+reaching p c events = with_events (with_record p c) events
+
 -- with this record nothing is read back yet, and no pair taken. The ending noted is a placeholder, since own STOP cannot come before 50h.
 unfoldable pub starting : Controller → Progress
 starting c = progress c false Unfinished 0 0 (replicate 68 0)

@@ -1,4 +1,7 @@
 // How far a job has come.
+ghost use Rattle.std.specs.Prelude.{◌≡◌};
+ghost use Rattle.service.specs.Progress.{reaching};
+
 use answer::ending::Ending;
 use controller::record::Controller;
 
@@ -17,4 +20,15 @@ pub struct Progress {
     pub events: usize,
     // Bytes read back, held until own STOP. (Fixed memory: the definitions of `Act` and `driver/Run` speak of it.)
     pub fetched: [u8; 68],
+}
+
+impl Progress {
+    // The record and the pairs taken, as they are now.
+    #[tactic(auto, unfolding(crate::specs::Progress::reaching))]
+    pub fn reach(&mut self, c: Controller, events: usize)
+        ensures { self.new ≡ reaching self.old c events }
+    {
+        self.controller = c;
+        self.events = events;
+    }
 }
