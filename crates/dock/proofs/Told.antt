@@ -1,16 +1,21 @@
 -- What a call tells and leaves, from what its parts do. Assumes nothing.
 use mathlib.Core.List.{List, ◌++◌}
 use mathlib.Core.Path.{◌≡◌, refl, sym, ap, ◌∙◌}
-use Prim.Native.Nat.{ℕ}
+use Prim.Native.Nat.{ℕ, ◌≤◌}
 use native.Mathlib.Omega.{arith}
 use lib.ListN.{length, take, drop}
-use Rattle.notation.proofs.Laid.{laid-append, laid_at-append, laid_same, before-laid}
-use Rattle.dock.specs.Calls.{StepCall, telling}
+use Rattle.notation.proofs.Laid.{laid-append, laid_at-append, laid_same, read-laid, before-laid}
+use Rattle.dock.specs.Calls.{StepCall, not_done, telling}
 use Rattle.dock.specs.StateBytes.{head_bytes, bytes_of}
 use Rattle.notation.specs.Overlay.{laid, laid_at}
 use Rattle.port.specs.Ask.{ask_number}
 use Rattle.port.specs.Hear.{asks}
 use Rattle.port.specs.Port.{Port}
+
+-- a state that is too short
+pub not_done_lem : (call : StepCall) (m : List ℕ) → call ≡ not_done → (◌≡◌ {A = ℕ} 5381 call.step) × (m ≡ laid call.state m)
+unfolding not_done ask_number laid
+not_done_lem call m e = (sym (ap (λ (c : StepCall). c.step) e), sym (ap (λ (c : StepCall). laid c.state m) e))
 
 -- the state is put part by part, the head last
 pub bytes-laid : (p : Port) (m : List ℕ) → length p.payload ≡ 68 →
@@ -47,3 +52,12 @@ module _ (call : StepCall) (p : Port) (m before after : List ℕ) (result : ℕ)
       telling_so
       (ap (λ (x : List ℕ). take 68 (drop 12 x)) b ∙ before-laid 12 68 80 p.fetched m refl ∙ sym d)
       (ap (laid (head_bytes p.stand)) b ∙ sym (kept-laid p m d l))
+
+  -- data and bytes read back are put anew
+  pub told_anew : length p.payload ≡ 68 → 80 ≤ length (laid_at 80 p.fetched m) → before ≡ laid_at 12 p.payload (laid_at 80 p.fetched m) →
+      (result ≡ call.step) × (after ≡ laid call.state m)
+  told_anew l n b =
+      let placed = laid_at 12 p.payload (laid_at 80 p.fetched m) in
+      let found = read-laid 12 p.payload (laid_at 80 p.fetched m) (omega (arith, l, n)) in
+      telling_so (ap (λ (x : List ℕ). take 68 (drop 12 x)) b ∙ ap (λ (k : ℕ). take k (drop 12 placed)) (sym l) ∙ found)
+      (ap (laid (head_bytes p.stand)) b ∙ sym (bytes-laid p m l))

@@ -1,10 +1,11 @@
 -- Bytes laid after bytes: what two calls put is what one would have put. Assumes nothing.
 use mathlib.Core.List.{List, [], ◌∷◌, ◌++◌}
 use mathlib.Core.Path.{◌≡◌, refl, sym, ap, ◌∙◌}
-use Prim.Native.Nat.{ℕ, zero, suc, ◌+◌, ◌≤◌}
+use Prim.Native.Nat.{ℕ, zero, suc, ◌+◌, ◌≤◌, ◌<◌}
+use native.Mathlib.Nat.{le_of_suc-le-suc, not-suc-le-zero}
 use native.Mathlib.Omega.{arith}
 use borrow.Rule.Slice.PartMut.{put_mid}
-use lib.ListN.{length, drop, length-drop}
+use lib.ListN.{length, set, drop, length-drop}
 use Rattle.notation.proofs.Laid.{laid-whole}
 use Rattle.notation.proofs.Overlay.{past_end}
 use Rattle.notation.specs.Overlay.{laid, laid_at}
@@ -36,3 +37,13 @@ unfolding laid_at
 copied_eight at k xs lent e n room =
     let rest = length-drop at lent in
     rw (e, laid-whole xs (drop at lent) (omega (arith, rest, n, room)), n) refl
+
+-- four bytes put at the start, and others laid after them
+pub after_four : (a b d e : ℕ) (xs lent : List ℕ) → 3 < length lent →
+    laid_at 4 xs (set (set (set (set lent 0 a) 1 b) 2 d) 3 e) ≡ laid (a ∷ b ∷ d ∷ e ∷ xs) lent
+unfolding laid_at laid
+after_four a b d e xs [] h = absurd (not-suc-le-zero h)
+after_four a b d e xs (x ∷ []) h = absurd (not-suc-le-zero (le_of_suc-le-suc h))
+after_four a b d e xs (x ∷ y ∷ []) h = absurd (not-suc-le-zero (le_of_suc-le-suc (le_of_suc-le-suc h)))
+after_four a b d e xs (x ∷ y ∷ z ∷ []) h = absurd (not-suc-le-zero (le_of_suc-le-suc (le_of_suc-le-suc (le_of_suc-le-suc h))))
+after_four a b d e xs (x ∷ y ∷ z ∷ w ∷ lent) h = refl

@@ -17,9 +17,9 @@ use Rattle.control.specs.Flags.{weighs}
 use Rattle.controller.specs.Reset.{fresh, reset_with}
 use Rattle.controller.specs.declared.record.Controller.{Controller}
 use Rattle.notation.proofs.Cases.{split, when-true, when-false}
-use Rattle.notation.proofs.Laid.{laid-whole, part_length}
+use Rattle.notation.proofs.Laid.{laid-append, laid-whole, part_length}
 use Rattle.notation.specs.Choice.{when◌then◌else◌}
-use Rattle.notation.specs.Overlay.{laid}
+use Rattle.notation.specs.Overlay.{laid, laid_at}
 use Rattle.virtual_chip.specs.Calls.{ChipCall, refusing, fresh_call, made_number}
 use Rattle.virtual_chip.specs.RecordBytes.{flag_bytes, register_bytes, head_bytes, bytes_of, flags_in, record_in, is_record, decoded, no_record, record_of, stored}
 
@@ -28,6 +28,11 @@ pub flag_byte : (b : Bool) → bool_byte b ≡ weighs b 1
 unfolding weighs when◌then◌else◌
 flag_byte true = refl
 flag_byte false = refl
+
+-- the buffer is put first, and the rest before it
+pub parts-laid : (c : Controller) (m : List ℕ) → laid (bytes_of c) m ≡ laid (head_bytes c) (laid_at 20 c.buffer m)
+unfolding bytes_of head_bytes flag_bytes register_bytes
+parts-laid c m = laid-append (head_bytes c) c.buffer m
 
 -- bytes that are a record have room for one
 not_short : (b rest : Bool) → (when b then false else rest) ≡ true → b ≡ false

@@ -1,4 +1,5 @@
 -- Laws of the record's bytes.
+pub mod Joined
 pub mod Bytes
 pub mod Replied
 pub mod Places
