@@ -28,7 +28,7 @@ use Rattle.answer.specs.declared.ending.Ending.TheVariants.{Unfinished, Refused}
 use Rattle.notation.proofs.Cases.{when-true, when-false, split}
 use Rattle.notation.specs.Choice.{when◌then◌else◌, ◌or◌}
 use Rattle.service.specs.Act.{ends, follows}
-use Rattle.service.specs.Progress.{with_record}
+use Rattle.service.specs.Progress.{with_record, reaching}
 use Rattle.service.specs.Serve.{Table, serve}
 use Rattle.service.specs.declared.progress.Progress.{Progress}
 
@@ -97,6 +97,11 @@ pub at_most_one : (b : Bool) (sent sent' : ℕ) → sent' ≡ (when b then sent 
 unfolding when◌then◌else◌
 at_most_one true sent sent' e = omega (arith, e)
 at_most_one false sent sent' e = omega (arith, e)
+
+-- the progress as reached, where the record and the pairs taken are its own
+pub reached : (p : Progress) (events : ℕ) → p.events ≡ events → reaching p p.controller events ≡ p
+unfolding reaching
+reached p events e = rw (sym e)
 
 -- what comes after a pair that was served
 abbrev after : Table → Progress → List ℕ → Run
