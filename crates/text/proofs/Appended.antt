@@ -1,12 +1,14 @@
 -- Text put after text: what two calls put is what one would have put. Assumes nothing.
 use mathlib.Core.List.{List, [], ◌∷◌, ◌++◌, append_assoc, append-nil}
 use mathlib.Core.Path.{◌≡◌, refl, sym, ap, ◌∙◌}
-use Prim.Native.Nat.{ℕ, zero, suc, ◌+◌, ◌-◌, ◌≤◌, ◌<◌}
+use Prim.Native.Nat.{ℕ, zero, suc, ◌+◌, ◌-◌, ◌≤◌, min}
 use native.Mathlib.Omega.{arith}
-use lib.ListN.{length, take, set, length-append}
-use lib.Seq.{take_all}
-use Rattle.std.proofs.lemmas.List.{length-take, take_more, take_more_set}
-use Rattle.text.specs.Text.{appended}
+use lib.ListN.{length, take, drop, length-append, length-drop}
+use lib.Seq.{take_all, length-take-le, take-append-add}
+use Rattle.std.proofs.lemmas.List.{length-take, take_more}
+use Rattle.notation.specs.Overlay.{laid, laid_at}
+use Rattle.text.specs.Text.{appended, place_after}
+use Rattle.text.proofs.Holds.{place_min}
 
 -- the first k of two lists: all that the first has of them, and then so many of the second
 take-two : (k j : ℕ) (xs ys : List ℕ) → j ≡ k - length xs → take k xs ++ take j ys ≡ take k (xs ++ ys)
@@ -39,21 +41,34 @@ pub appended-whole : (places : ℕ) (xs : List ℕ) → length xs ≤ places →
 unfolding appended
 appended-whole places xs h = take_all (places - 0) xs (omega (arith, h))
 
--- one byte more in the memory, where there is a place and where there is none
-module _ (places len byte : ℕ) (bytes : List ℕ) (all : length bytes ≡ places) where
-  pub appended-one : len < places → take (len + 1) (set bytes len byte) ≡ appended places (take len bytes) (byte ∷ [])
-  unfolding appended
-  appended-one h =
-      let room : suc (places - length (take len bytes) - 1) ≡ places - length (take len bytes) = omega (arith, length-take len bytes, all) in
-      take_more_set bytes len byte (omega (arith, all))
-      ∙ ap (λ (l : List ℕ). take len bytes ++ byte ∷ l) (sym (take-none (places - length (take len bytes) - 1)))
-      ∙ ap (λ (n : ℕ). take len bytes ++ take n (byte ∷ [])) room
+-- what is left of memory, once bytes were laid over it
+take-laid : (k : ℕ) (xs lent : List ℕ) → k ≡ min (length xs) (length lent) → take k (laid xs lent) ≡ take (length lent) xs
+unfolding laid
+take-laid zero [] lent e = sym (take-none (length lent))
+take-laid (suc k) [] lent e = absurd (omega (arith, e))
+take-laid zero (x ∷ xs) [] e = refl
+take-laid (suc k) (x ∷ xs) [] e = absurd (omega (arith, e))
+take-laid zero (x ∷ xs) (y ∷ lent) e = absurd (omega (arith, e))
+take-laid (suc k) (x ∷ xs) (y ∷ lent) e = ap (λ (l : List ℕ). x ∷ l) (take-laid k xs lent (omega (arith, e)))
 
-  pub appended_full : len ≤ places → places ≤ len → take len bytes ≡ appended places (take len bytes) (byte ∷ [])
-  unfolding appended
-  appended_full h k =
-      let full : 0 ≡ places - length (take len bytes) = omega (arith, length-take len bytes, all) in
-      sym (append-nil (take len bytes)) ∙ ap (λ (n : ℕ). take len bytes ++ take n (byte ∷ [])) full
+-- What is put into fixed memory as into lent memory, at the end of the text that stands there: that text, and the other after it.
+module _ (places len : ℕ) (xs bytes : List ℕ) (all : length bytes ≡ places) (fits : len ≤ places) where
+  pub put_after : take (place_after len (length xs) (length bytes)) (laid_at len xs bytes) ≡ appended places (take len bytes) xs
+  unfolding laid_at appended
+  put_after =
+      let next = place_after len (length xs) (length bytes) in
+      let more = next - len in
+      let end : next ≡ min (len + length xs) places = omega (arith, place_min len (length xs) (length bytes) (omega (arith, all, fits)), all) in
+      let before : length (take len bytes) ≡ len = length-take-le len bytes (omega (arith, all, fits)) in
+      let rest : length (drop len bytes) ≡ places - len = omega (arith, length-drop len bytes, all) in
+      let parts : next ≡ length (take len bytes) + more = omega (arith, end, before, fits) in
+      ap (λ (n : ℕ). take n (take len bytes ++ laid xs (drop len bytes))) parts
+      ∙ take-append-add (take len bytes) (laid xs (drop len bytes)) more
+      ∙ ap (λ (l : List ℕ). take len bytes ++ l) (take-laid more xs (drop len bytes) (omega (arith, end, rest, fits)))
+      ∙ ap (λ (n : ℕ). take len bytes ++ take n xs) (omega (arith, rest, before))
+
+pub put_within : (len n room : ℕ) → len ≤ room → place_after len n room ≤ room
+put_within len n room h = omega (arith, place_min len n room h)
 
 -- what two calls promise, as one: for a text of many parts
 pub chain : (places : ℕ) (xs ys first : List ℕ) {second third : List ℕ} →
@@ -63,5 +78,5 @@ chain places xs ys first h k = k ∙ ap (λ (l : List ℕ). appended places l ys
 -- what a function that puts text after text needs
 pub ruleset puts = (appended-none, appended-appended, take_more)
 
--- what `put` needs
-pub ruleset one_byte = (appended-one, appended_full)
+-- what a function that puts into fixed memory as into lent memory needs
+pub ruleset as_lent = (put_after, put_within)

@@ -7,6 +7,10 @@ use borrow.Author.Tests.{lt-ltb, le-ltb}
 use Rattle.text.specs.Text.{digit, decimal_of}
 use Rattle.notation.proofs.Cases.{when-true, when-false}
 
+pub no_place : (places n : ℕ) → places ≡ 0 → decimal_of places n ≡ []
+unfolding decimal_of
+no_place places n e = ap (λ (p : ℕ). decimal_of p n) e
+
 module _ (places n : ℕ) (some : places ≡ 0 → ⊥) where
   one_less : places ≡ suc (places - 1)
   one_less = omega arith
@@ -19,4 +23,4 @@ module _ (places n : ℕ) (some : places ≡ 0 → ⊥) where
   unfolding decimal_of
   more_digits h = ap (λ (p : ℕ). decimal_of p n) one_less ∙ when-false _ _ _ (le-ltb n 10 h)
 
-pub ruleset digits = (last-digit, more_digits)
+pub ruleset digits = (no_place, last-digit, more_digits)

@@ -1,4 +1,5 @@
 -- Laws that the proofs here cite.
-pub mod Appended
-pub mod Listed
+pub mod Holds
+pub mod First
 pub mod Digits
+pub mod Appended

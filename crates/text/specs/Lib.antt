@@ -1,2 +1,2 @@
--- Text in fixed memory.
+-- Text in lent memory and in memory of a fixed size.
 pub mod Text

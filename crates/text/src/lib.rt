@@ -1,6 +1,7 @@
-// Words, numbers and bytes as text in fixed memory.
+// Words, numbers and bytes as text: put into memory that the caller lends, or kept in fixed memory.
 #![tactic(auto)]
 
-mod put;
+mod fixed;
+pub mod put;
 
-pub use put::Text;
+pub use fixed::Text;

@@ -1,107 +1,30 @@
-// Text in fixed memory.
+// Text put into lent memory: each function gives the place after what it put. What has no place is left out.
 ghost use Rattle.std.specs.Prelude.{◌≡◌, [], ◌∷◌, ◌<◌};
-ghost use Rattle.text.specs.Text.{appended, digit, hex_of, decimal_of, listed};
+ghost use Rattle.text.specs.Text.{digit, hex_of, decimal_of, listed, Holds};
 
-use std::marker::Model;
-
-// A text of at most `N` bytes, with their number beside them: fixed memory. What has no place is left out. (No `std::fmt::Write`: its `write` promises the
-// text only for an `Ok`, and nothing promises the `Ok`.)
-#[derive(Debug, Drop)]
-pub struct Text<const N: usize> {
-    bytes: [u8; N],
-    len: usize,
+// One byte.
+#[tactic(auto, using(crate::proofs::Holds::one_byte))]
+pub fn put(text: &mut [u8], at: usize, byte: u8) -> usize
+    ensures { Holds at (byte ∷ []) text.old text.new result }
+{
+    if at < text.len() {
+        text[at] = byte;
+        at + 1
+    } else {
+        at
+    }
 }
 
-// Clauses see the bytes put so far.
-impl<const N: usize> Model for Text<N> {
-    ghost use Rattle.std.specs.Prelude.{ℕ, List, take, ◌≤◌};
-
-    ghost Value = { List ℕ };
-
-    ghost view = { λ t. take t.len t.bytes };
-
-    ghost invariant = { λ t. t.len ≤ N };
-}
-
-impl<const N: usize> Text<N> {
-    // No text.
-    pub fn new() -> Self
-        ensures { result ≡ [] }
-    {
-        Text {
-            bytes: [0; N],
-            len: 0,
-        }
+// A word.
+#[tactic(auto, using(crate::proofs::Holds::joins))]
+pub fn put_word(text: &mut [u8], at: usize, word: &[u8]) -> usize
+    ensures { Holds at word.now text.old text.new result }
+{
+    let mut next = at;
+    for &byte in word {
+        next = put(text, next, byte);
     }
-
-    // The bytes put so far.
-    pub fn as_bytes(&self) -> &[u8]
-        ensures { result.now ≡ self.now }
-    {
-        &self.bytes[..self.len]
-    }
-
-    // One byte.
-    #[tactic(auto, using(crate::proofs::Appended::one_byte))]
-    pub fn put(&mut self, byte: u8)
-        ensures { self.new ≡ appended N self.old (byte ∷ []) }
-    {
-        if self.len < N {
-            self.bytes[self.len] = byte;
-            self.len += 1;
-        }
-    }
-
-    // A word.
-    #[tactic(auto, using(crate::proofs::Appended::puts))]
-    pub fn put_word(&mut self, word: &[u8])
-        ensures { self.new ≡ appended N self.old word.now }
-    {
-        for &byte in word {
-            self.put(byte);
-        }
-    }
-
-    // A byte in hexadecimal.
-    #[tactic(auto, using(crate::proofs::Appended::puts), unfolding(crate::specs::Text::hex_of))]
-    pub fn put_hex(&mut self, byte: u8)
-        ensures { self.new ≡ appended N self.old (hex_of byte) }
-    {
-        self.put(digit(byte / 16));
-        self.put(digit(byte % 16));
-    }
-
-    // A number in decimal, of at most so many digits. (It calls itself, as `decimal_of` does: a loop finds the last digit first.)
-    #[tactic(auto, using(crate::proofs::Appended::puts, crate::proofs::Digits::digits), unfolding(crate::specs::Text::decimal_of))]
-    fn put_digits(&mut self, n: usize, places: usize)
-        ensures { self.new ≡ appended N self.old (decimal_of places n) }
-    {
-        if places == 0 {
-            return;
-        }
-        if 10 <= n {
-            self.put_digits(n / 10, places - 1);
-        }
-        self.put(digit((n % 10) as u8));
-    }
-
-    // A number in decimal.
-    pub fn put_decimal(&mut self, n: usize)
-        ensures { self.new ≡ appended N self.old (decimal_of 20 n) }
-    {
-        self.put_digits(n, 20);
-    }
-
-    // Bytes in hexadecimal, a space before each.
-    #[tactic(auto, using(crate::proofs::Appended::puts, crate::proofs::Listed::listed_one), unfolding(crate::specs::Text::listed))]
-    pub fn put_listed(&mut self, bytes: &[u8])
-        ensures { self.new ≡ appended N self.old (listed bytes.now) }
-    {
-        for &byte in bytes {
-            self.put(b' ');
-            self.put_hex(byte);
-        }
-    }
+    next
 }
 
 // A digit, in upper case.
@@ -111,4 +34,48 @@ fn digit(n: u8) -> u8
     ensures { result ≡ digit n }
 {
     if n < 10 { b'0' + n } else { b'A' + (n - 10) }
+}
+
+// A byte in hexadecimal.
+#[tactic(auto, using(crate::proofs::Holds::joins), unfolding(crate::specs::Text::hex_of))]
+pub fn put_hex(text: &mut [u8], at: usize, byte: u8) -> usize
+    ensures { Holds at (hex_of byte) text.old text.new result }
+{
+    let next = put(text, at, digit(byte / 16));
+    put(text, next, digit(byte % 16))
+}
+
+// A number in decimal, of at most so many digits. (It calls itself, as `decimal_of` does: a loop finds the last digit first.)
+#[tactic(auto, using(crate::proofs::Holds::joins, crate::proofs::Digits::digits), unfolding(crate::specs::Text::decimal_of))]
+fn put_digits(text: &mut [u8], at: usize, n: usize, places: usize) -> usize
+    ensures { Holds at (decimal_of places n) text.old text.new result }
+{
+    if places == 0 {
+        return at;
+    }
+    if n < 10 {
+        return put(text, at, digit(n as u8));
+    }
+    let next = put_digits(text, at, n / 10, places - 1);
+    put(text, next, digit((n % 10) as u8))
+}
+
+// A number in decimal.
+pub fn put_decimal(text: &mut [u8], at: usize, n: usize) -> usize
+    ensures { Holds at (decimal_of 20 n) text.old text.new result }
+{
+    put_digits(text, at, n, 20)
+}
+
+// Bytes in hexadecimal, a space before each.
+#[tactic(auto, using(crate::proofs::Holds::joins, crate::proofs::First::listing), unfolding(crate::specs::Text::listed))]
+pub fn put_listed(text: &mut [u8], at: usize, bytes: &[u8]) -> usize
+    ensures { Holds at (listed bytes.now) text.old text.new result }
+{
+    let mut next = at;
+    for &byte in bytes {
+        let spaced = put(text, next, b' ');
+        next = put_hex(text, spaced, byte);
+    }
+    next
 }
