@@ -1,9 +1,8 @@
 // What is printed of an answer, of the record after it and, for the ward log, of an address byte.
 use crate::print::print;
 use answer::{refusal_of, value_of};
-use console::reason::put_reason;
+use console::fixed::{put_reason, put_ward_note};
 use console::turn::{called_name, turn_name};
-use console::ward_log::put_ward_note;
 use control::turn::{Edge, Turn};
 use controller::record::Controller;
 use controller::reply::Reply;

@@ -4,7 +4,7 @@ ghost use Rattle.std.specs.Prelude.{◌≤◌, length};
 use crate::group::{Group, is_bad, split_group};
 use crate::print::print;
 use crate::state::{print_buffer, print_reply, print_state};
-use console::tell::tell_job;
+use console::fixed::tell_job;
 use controller::record::Controller;
 use requests::groups::access;
 use text::Text;

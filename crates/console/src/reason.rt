@@ -1,10 +1,10 @@
 // What the record line of a trace says of why a move ended.
 ghost use Rattle.std.specs.Prelude.{◌≡◌};
 ghost use Rattle.console.specs.ReasonText.{reason_word, reason_text};
-ghost use Rattle.text.specs.Text.{appended};
+ghost use Rattle.text.specs.Text.{Holds};
 
 use control::reason::Reason;
-use text::Text;
+use text::put::put_word;
 
 // The reason's word.
 #[tactic(auto, unfolding(crate::specs::ReasonText::reason_word))]
@@ -23,10 +23,10 @@ fn reason_word(reason: Reason) -> &'static [u8]
 }
 
 // ` reason nack`
-#[tactic(auto, using(text::proofs::Appended::puts), unfolding(crate::specs::ReasonText::reason_text))]
-pub fn put_reason<const N: usize>(text: &mut Text<N>, reason: Reason)
-    ensures { text.new ≡ appended N text.old (reason_text reason) }
+#[tactic(auto, using(text::proofs::Holds::joins), unfolding(crate::specs::ReasonText::reason_text))]
+pub fn put_reason(text: &mut [u8], at: usize, reason: Reason) -> usize
+    ensures { Holds at (reason_text reason) text.old text.new result }
 {
-    text.put_word(b" reason ");
-    text.put_word(reason_word(reason));
+    let next = put_word(text, at, b" reason ");
+    put_word(text, next, reason_word(reason))
 }

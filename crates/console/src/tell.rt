@@ -2,30 +2,48 @@
 ghost use Rattle.std.specs.Prelude.{◌≡◌};
 ghost use Rattle.console.specs.JobText.{report_text};
 ghost use Rattle.driver.specs.Run.{job_of};
-ghost use Rattle.text.specs.Text.{appended};
+ghost use Rattle.text.specs.Text.{Holds};
 
 use crate::handed::count_handed;
 use crate::report::put_job;
 use controller::record::Controller;
 use driver::job::run_job;
 use service::job::Job;
-use text::Text;
 
-// Runs a job with a destination of 68 and an out record of 69 bytes, and puts its three lines. Gives the record after it.
-pub fn tell_job<const N: usize>(
+// The record after a job, and the place after its text.
+#[derive(Clone, Copy)]
+pub struct Told {
+    pub controller: Controller,
+    pub end: usize,
+}
+
+// Runs a job with a destination of 68 and an out record of 69 bytes, and puts its three lines at a place of the text.
+pub(crate) fn tell_at(
     c: Controller,
     job: Job,
     payload: &[u8],
     script: &[u8],
-    text: &mut Text<N>,
-) -> Controller
-    ensures next { result ≡ (job_of job payload.now 68 69 script.now c).result.next }
-    ensures lines { text.new ≡ appended N text.old (report_text (job_of job payload.now 68 69 script.now c)) }
+    text: &mut [u8],
+    at: usize,
+) -> Told
+    ensures next { result.controller ≡ (job_of job payload.now 68 69 script.now c).result.next }
+    ensures lines { Holds at (report_text (job_of job payload.now 68 69 script.now c)) text.old text.new result.end }
 {
     let mut destination = [0; 68];
     let mut out = [0; 69];
     let ran = run_job(c, job, payload, &mut destination, &mut out, script);
     let handed = count_handed(job, ran.ending);
-    put_job(text, &ran, &out[..ran.sent], &destination[..handed]);
-    ran.controller
+    let end = put_job(text, at, &ran, &out[..ran.sent], &destination[..handed]);
+    Told {
+        controller: ran.controller,
+        end,
+    }
+}
+
+// The same at the start of the text.
+pub fn tell_job(c: Controller, job: Job, payload: &[u8], script: &[u8], text: &mut [u8]) -> Told
+    ensures next { result.controller ≡ (job_of job payload.now 68 69 script.now c).result.next }
+    ensures lines { Holds 0 (report_text (job_of job payload.now 68 69 script.now c)) text.old text.new result.end }
+{
+    tell_at(c, job, payload, script, text, 0)
 }

@@ -4,14 +4,14 @@ use mathlib.Core.List.{List}
 use mathlib.Core.Path.{◌≡◌, sym, ap, ◌∙◌}
 use Prim.Native.Nat.{ℕ, ◌+◌, ◌-◌, ◌<◌, ◌≤◌}
 use native.Mathlib.Omega.{arith}
-use borrow.Author.Tests.{le-ltb, lt-ltb}
+use borrow.Author.Tests.{le-ltb, lt-ltb, ltb-false}
 use lib.ListN.{length, take, drop, length-drop}
 use lib.Seq.{take_all, drop-drop}
 use Rattle.job.specs.Program.{kind_of, data_size, bad_input, job_in, IsParsed}
 use lib.Dec.{eqb}
 use Rattle.address.specs.declared.number.Direction.TheVariants.{Write, Read}
 use Rattle.address.specs.declared.number.Direction.{Direction}
-use Rattle.notation.proofs.Cases.{or_right, or-false, split, when-true, when-false}
+use Rattle.notation.proofs.Cases.{or_right, or-false, or-left-off, or_right_off, split, when-true, when-false}
 use Rattle.notation.specs.Choice.{when◌then◌else◌}
 use Rattle.requests.specs.Jobs.{data_length, direction_for}
 use Rattle.service.specs.declared.job.Job.{Job}
@@ -22,6 +22,15 @@ unfolding data_length direction_for
 same_size kind n =
     split (λ (d : Direction). data_length d n ≡ (when eqb kind 0 then n else 0)) (eqb kind 0) Write Read
     (λ h. sym (when-true _ _ _ h)) (λ h. sym (when-false _ _ _ h))
+
+module _ (input : List ℕ) (fine : bad_input input ≡ false) where
+  pub has_head : 3 ≤ length input
+  unfolding bad_input
+  has_head = ltb-false (length input) 3 (or-left-off _ _ (or_right_off _ _ fine))
+
+  pub has_data : 3 + data_size input ≤ length input
+  unfolding bad_input
+  has_data = ltb-false (length input) (3 + data_size input) (or_right_off _ _ (or_right_off _ _ (or_right_off _ _ fine)))
 
 -- by what its head shows, and what stands after it
 module _ (input rest payload script : List ℕ) (asked : Job) (size : ℕ) (short : length input ≤ 4096) (head : 3 ≤ length input) (kind : kind_of input ≤ 1)

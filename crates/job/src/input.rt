@@ -3,8 +3,7 @@ ghost use Rattle.std.specs.Prelude.{◌≡◌, MatchOption, true};
 ghost use Rattle.job.specs.Program.{bad_input, IsParsed, program_text};
 
 use answer::ending::Ending;
-use console::report::put_job;
-use console::tell::tell_job;
+use console::fixed::{put_job, tell_job};
 use driver::result::JobResult;
 use requests::jobs::{data_len, fresh_enabled, job_for};
 use service::job::Job;

@@ -1,18 +1,17 @@
--- `tell_job` runs the job, and puts its lines: what it prints of the two buffers is what the job sent and handed up.
-use mathlib.Core.Path.{◌≡◌, sym, ap, ◌∙◌}
+-- `tell_at` runs the job, and puts its lines: what it prints of the two buffers is what the job sent and handed up.
+use mathlib.Core.Path.{◌≡◌, sym, ap}
 use native.Mathlib.Omega.{arith}
 use borrow.Author.Rules.{rules}
-use Prim.Native.Nat.{ℕ, ◌≤◌}
-use mathlib.Core.List.{List}
-use Rattle.text.specs.Text.{appended}
+use Prim.Native.Nat.{◌≤◌}
 use lib.ListN.{length}
 use lib.Seq.{length-take-le}
 use Rattle.console.proofs.Printed.{sent-fits, sent-bytes, handed-fits, handed-bytes, same_text}
 use Rattle.driver.specs.Run.{Result, result_of}
-use Rattle.console.proofs.tell.tell_job.Goals as goal
+use Rattle.text.proofs.Holds.{said}
+use Rattle.console.proofs.tell.tell_at.Goals as goal
 
 pub slice_bounds-out-end : goal.slice_bounds-out-end
-slice_bounds-out-end g c =
+slice_bounds-out-end c =
     let s = c.args in
     let places : length c.args.c.buffer ≡ 68 = search rules in
     let ran = c.run_job-ran in
@@ -20,7 +19,7 @@ slice_bounds-out-end g c =
     omega (arith, sent-fits s.job s.payload.now s.script.now s.c places ran.result told.result told.number, ran.auto)
 
 pub slice_bounds-put_job-end : goal.slice_bounds-put_job-end
-slice_bounds-put_job-end g c =
+slice_bounds-put_job-end c =
     let s = c.args in
     let ran = c.run_job-ran in
     let places : length c.args.c.buffer ≡ 68 = search rules in
@@ -29,7 +28,7 @@ slice_bounds-put_job-end g c =
     sym (length-take-le _ _ fits)
 
 pub slice_bounds-destination-end : goal.slice_bounds-destination-end
-slice_bounds-destination-end g c =
+slice_bounds-destination-end c =
     let s = c.args in
     let places : length c.args.c.buffer ≡ 68 = search rules in
     let ran = c.run_job-ran in
@@ -39,7 +38,7 @@ slice_bounds-destination-end g c =
     omega (arith, fits, ran.auto)
 
 pub slice_bounds-put_job-end-2 : goal.slice_bounds-put_job-end-2
-slice_bounds-put_job-end-2 g c =
+slice_bounds-put_job-end-2 c =
     let s = c.args in
     let ran = c.run_job-ran in
     let places : length c.args.c.buffer ≡ 68 = search rules in
@@ -50,7 +49,7 @@ slice_bounds-put_job-end-2 g c =
 
 pub returns : goal.returns
 unfolding result_of
-returns g c =
+returns c =
     let job = c.args.job in
     let payload = c.args.payload.now in
     let script = c.args.script.now in
@@ -62,5 +61,5 @@ returns g c =
     let sent = sent-bytes job payload script start places ran.result told number _ ran.ensures.sent in
     let handed = handed-bytes job payload script start places ran.result told number _ c.count_handed-handed.ensures _ ran.ensures.handed in record {
       next = ap (λ (r : Result). r.next) told;
-      lines = c.put_job.ensures ∙ ap (λ (l : List ℕ). appended g.row.N c.args.text.now l) (same_text job payload script start places ran.result told number _ _ sent handed);
+      lines = said _ _ _ _ (same_text job payload script start places ran.result told number _ _ sent handed) c.put_job-end.ensures;
     }
