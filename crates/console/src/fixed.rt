@@ -6,8 +6,7 @@ ghost use Rattle.console.specs.WardLog.{ward_note};
 ghost use Rattle.driver.specs.Run.{job_of, result_of};
 ghost use Rattle.text.specs.Text.{appended};
 
-use crate::tell::tell_at;
-use crate::{reason, report, ward_log};
+use crate::{reason, report, tell, ward_log};
 use control::reason::Reason;
 use controller::record::Controller;
 use driver::result::JobResult;
@@ -30,7 +29,8 @@ pub fn put_job<const N: usize>(text: &mut Text<N>, res: &JobResult, sent: &[u8],
     text.len = report::put_job(&mut text.bytes, text.len, res, sent, handed);
 }
 
-// Runs a job with a destination of 68 and an out record of 69 bytes, and puts its three lines. Gives the record after it.
+// Runs a job with a destination of 68 and an out record of 69 bytes, and puts its three lines. Gives the record after it. (What is left of the
+// memory is lent as a part of a slice: a part of an array of N places can't be.)
 #[tactic(auto, using(text::proofs::Appended::as_lent))]
 pub fn tell_job<const N: usize>(
     c: Controller,
@@ -42,8 +42,9 @@ pub fn tell_job<const N: usize>(
     ensures next { result ≡ (job_of job payload.now 68 69 script.now c).result.next }
     ensures lines { text.new ≡ appended N text.old (report_text (job_of job payload.now 68 69 script.now c)) }
 {
-    let told = tell_at(c, job, payload, script, &mut text.bytes, text.len);
-    text.len = told.end;
+    let memory = &mut text.bytes[..];
+    let told = tell::tell_job(c, job, payload, script, &mut memory[text.len..]);
+    text.len += told.end;
     told.controller
 }
 

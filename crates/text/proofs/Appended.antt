@@ -4,11 +4,14 @@ use mathlib.Core.Path.{◌≡◌, refl, sym, ap, ◌∙◌}
 use Prim.Native.Nat.{ℕ, zero, suc, ◌+◌, ◌-◌, ◌≤◌, min}
 use native.Mathlib.Omega.{arith}
 use lib.ListN.{length, take, drop, length-append, length-drop}
-use lib.Seq.{take_all, length-take-le, take-append-add}
+use lib.Seq.{take_all, length-take-le, take-append-add, take-append-le}
 use Rattle.std.proofs.lemmas.List.{length-take, take_more}
 use Rattle.notation.specs.Overlay.{laid, laid_at}
-use Rattle.text.specs.Text.{appended, place_after}
-use Rattle.text.proofs.Holds.{place_min}
+use Rattle.notation.proofs.Overlay.{at_start}
+use Rattle.std.proofs.Common.{slice_range}
+use borrow.Rule.Slice.PartMut.{put_mid, post_of}
+use Rattle.text.specs.Text.{appended, place_after, Holds}
+use Rattle.text.proofs.Holds.{place_min, laid-length}
 
 -- the first k of two lists: all that the first has of them, and then so many of the second
 take-two : (k j : ℕ) (xs ys : List ℕ) → j ≡ k - length xs → take k xs ++ take j ys ≡ take k (xs ++ ys)
@@ -69,6 +72,25 @@ module _ (places len : ℕ) (xs bytes : List ℕ) (all : length bytes ≡ places
 
 pub put_within : (len n room : ℕ) → len ≤ room → place_after len n room ≤ room
 put_within len n room h = omega (arith, place_min len n room h)
+
+-- The same where what is left of the memory is lent, as a part of its own.
+pub put_rest : (places len : ℕ) (xs bytes : List ℕ) {rest : List ℕ} {more : ℕ} → length bytes ≡ places → len ≤ places → Holds 0 xs (slice_range bytes len (length bytes)) rest more →
+    take (len + more) (put_mid len (length bytes - len) bytes rest) ≡ appended places (take len bytes) xs
+unfolding appended
+put_rest places len xs bytes {rest} {more} all fits put =
+    let left = drop len bytes in
+    let beyond = post_of len (length bytes - len) bytes in
+    let before : length (take len bytes) ≡ len = length-take-le len bytes (omega (arith, all, fits)) in
+    let lent : slice_range bytes len (length bytes) ≡ left = take_all (length bytes - len) left (omega (arith, length-drop len bytes)) in
+    let room : length left ≡ places - length (take len bytes) = omega (arith, length-drop len bytes, all, before) in
+    let over : rest ≡ laid xs left = put.0 ∙ at_start xs _ ∙ ap (laid xs) lent in
+    let size : more ≡ min (length xs) (length left) =
+    omega (arith, put.1, place_min 0 (length xs) (length (slice_range bytes len (length bytes))) (omega arith), ap length lent) in
+    let within : more ≤ length rest = omega (arith, size, ap length over, laid-length xs left) in
+    ap (λ (n : ℕ). take (n + more) (take len bytes ++ (rest ++ beyond))) (sym before)
+    ∙ take-append-add (take len bytes) (rest ++ beyond) more
+    ∙ ap (λ (l : List ℕ). take len bytes ++ l) (take-append-le more rest beyond within ∙ ap (take more) over ∙ take-laid more xs left size)
+    ∙ ap (λ (n : ℕ). take len bytes ++ take n xs) room
 
 -- what two calls promise, as one: for a text of many parts
 pub chain : (places : ℕ) (xs ys first : List ℕ) {second third : List ℕ} →

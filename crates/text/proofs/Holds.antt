@@ -53,7 +53,7 @@ place-place at m n room = either _ at room inside past
     past : room ≤ at → place_after (place_after at m room) n room ≡ place_after at (m + n) room
     past h = ap (λ (k : ℕ). place_after k n room) (place-past at m room h) ∙ place-past at n room h ∙ sym (place-past at (m + n) room h)
 
-laid-length : (xs lent : List ℕ) → length (laid xs lent) ≡ length lent
+pub laid-length : (xs lent : List ℕ) → length (laid xs lent) ≡ length lent
 unfolding laid
 laid-length [] lent = refl
 laid-length (x ∷ xs) [] = refl

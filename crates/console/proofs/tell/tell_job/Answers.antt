@@ -1,4 +1,4 @@
--- `tell_at` runs the job, and puts its lines: what it prints of the two buffers is what the job sent and handed up.
+-- `tell_job` runs the job, and puts its lines: what it prints of the two buffers is what the job sent and handed up.
 use mathlib.Core.Path.{◌≡◌, sym, ap}
 use native.Mathlib.Omega.{arith}
 use borrow.Author.Rules.{rules}
@@ -8,7 +8,7 @@ use lib.Seq.{length-take-le}
 use Rattle.console.proofs.Printed.{sent-fits, sent-bytes, handed-fits, handed-bytes, same_text}
 use Rattle.driver.specs.Run.{Result, result_of}
 use Rattle.text.proofs.Holds.{said}
-use Rattle.console.proofs.tell.tell_at.Goals as goal
+use Rattle.console.proofs.tell.tell_job.Goals as goal
 
 pub slice_bounds-out-end : goal.slice_bounds-out-end
 slice_bounds-out-end c =
