@@ -11,7 +11,7 @@ use driver::job::run_job;
 use service::job::Job;
 
 // The record after a job, and the length of its text.
-#[derive(Clone, Copy)]
+#[derive(Clone, Copy, Debug, PartialEq, Eq)]
 pub struct Told {
     pub controller: Controller,
     pub end: usize,
