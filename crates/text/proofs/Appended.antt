@@ -74,7 +74,8 @@ pub put_within : (len n room : ℕ) → len ≤ room → place_after len n room 
 put_within len n room h = omega (arith, place_min len n room h)
 
 -- The same where what is left of the memory is lent, as a part of its own.
-pub put_rest : (places len : ℕ) (xs bytes : List ℕ) {rest : List ℕ} {more : ℕ} → length bytes ≡ places → len ≤ places → Holds 0 xs (slice_range bytes len (length bytes)) rest more →
+pub put_rest : (places len : ℕ) (xs bytes : List ℕ) {rest : List ℕ} {more : ℕ} → length bytes ≡ places → len ≤ places →
+    Holds 0 xs (slice_range bytes len (length bytes)) rest more →
     take (len + more) (put_mid len (length bytes - len) bytes rest) ≡ appended places (take len bytes) xs
 unfolding appended
 put_rest places len xs bytes {rest} {more} all fits put =

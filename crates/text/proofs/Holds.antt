@@ -72,7 +72,8 @@ module _ (at x : ℕ) (xs ys lent : List ℕ) where
   Joins = laid_at (place_after at (suc (length xs)) (length lent)) ys (laid_at at (x ∷ xs) lent) ≡ laid_at at (x ∷ (xs ++ ys)) lent
 
   inside : at < length lent →
-      laid_at (place_after (at + 1) (length xs) (length (set lent at x))) ys (laid_at (at + 1) xs (set lent at x)) ≡ laid_at (at + 1) (xs ++ ys) (set lent at x) →
+      laid_at (place_after (at + 1) (length xs) (length (set lent at x))) ys (laid_at (at + 1) xs (set lent at x))
+      ≡ laid_at (at + 1) (xs ++ ys) (set lent at x) →
       Joins
   inside h rest =
       let e : place_after at (suc (length xs)) (length lent) ≡ place_after (at + 1) (length xs) (length (set lent at x)) =
@@ -89,7 +90,8 @@ module _ (at x : ℕ) (xs ys lent : List ℕ) where
       ∙ past_end at ys lent h
       ∙ sym (past_end at (x ∷ (xs ++ ys)) lent h)
 
-pub laid-laid : (at : ℕ) (xs ys lent : List ℕ) → laid_at (place_after at (length xs) (length lent)) ys (laid_at at xs lent) ≡ laid_at at (xs ++ ys) lent
+pub laid-laid : (at : ℕ) (xs ys lent : List ℕ) →
+    laid_at (place_after at (length xs) (length lent)) ys (laid_at at xs lent) ≡ laid_at at (xs ++ ys) lent
 laid-laid at [] ys lent =
     ap (λ (k : ℕ). laid_at k ys (laid_at at [] lent)) (place_none at (length lent)) ∙ ap (λ (l : List ℕ). laid_at at ys l) (laid_none at lent)
 laid-laid at (x ∷ xs) ys lent =
