@@ -131,14 +131,17 @@ chain at xs ys first {mid} {next} {second} h k =
     )
 
 -- the same text, said otherwise
-pub said : (at : ℕ) (xs ys before : List ℕ) {next : ℕ} {after : List ℕ} → xs ≡ ys → Holds at xs before after next → Holds at ys before after next
+pub said : (at : ℕ) (xs ys before : List ℕ) {next : ℕ} {after : List ℕ} → xs ≡ ys →
+    Holds at xs before after next → Holds at ys before after next
 said at xs ys before {next} {after} e h = subst (λ (l : List ℕ). Holds at l before after next) e h
 
-pub same_room : (at : ℕ) (xs : List ℕ) {next : ℕ} (before : List ℕ) {after : List ℕ} → Holds at xs before after next → length after ≡ length before
+pub same_room : (at : ℕ) (xs : List ℕ) {next : ℕ} (before : List ℕ) {after : List ℕ} → Holds at xs before after next →
+    length after ≡ length before
 same_room at xs before h = ap (λ (l : List ℕ). length l) h.0 ∙ keeps at xs before
 
 -- text that starts within the memory ends within it
-pub within : (at : ℕ) (xs : List ℕ) {next : ℕ} (before : List ℕ) {after : List ℕ} → at ≤ length before → Holds at xs before after next → next ≤ length after
+pub within : (at : ℕ) (xs : List ℕ) {next : ℕ} (before : List ℕ) {after : List ℕ} → at ≤ length before →
+    Holds at xs before after next → next ≤ length after
 within at xs before h e = omega (arith, e.1, place_min at (length xs) (length before) h, same_room at xs before e)
 
 -- what `put` needs
