@@ -19,7 +19,7 @@ fn end_or(k: Control, otherwise: Option<Turn>) -> Option<Turn>
 }
 
 // Where a write at A0h leads.
-fn after_edge(edge: Edge) -> Turn
+pub fn after_edge(edge: Edge) -> Turn
     ensures { result ≡ after_edge edge }
 {
     match edge {

@@ -35,7 +35,7 @@ impl Controller {
     }
 
     // A write with ENSIO 1: to the next turn, if the write is listed.
-    fn enable(&mut self, k: Control, response: Option<Turn>) -> Answer
+    pub fn enable(&mut self, k: Control, response: Option<Turn>) -> Answer
         ensures { outcome self.new result ≡ enabled self.old k response }
     {
         let Some(turn) = response else {

@@ -4,3 +4,5 @@
 pub mod engine;
 pub mod entry;
 pub mod table;
+#[cfg(test)]
+mod tests;
